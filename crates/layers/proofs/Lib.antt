@@ -1,0 +1,5 @@
+pub mod Ascending
+pub mod Entries
+pub mod Members
+pub mod Sights
+pub mod Steps

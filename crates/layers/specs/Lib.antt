@@ -1,0 +1,4 @@
+pub mod Reference
+pub mod Sight
+pub mod Table
+pub mod Views
