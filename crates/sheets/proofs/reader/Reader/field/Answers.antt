@@ -1,0 +1,35 @@
+-- What the reader saw, handed to the lemmas on one step.
+use mathlib.Core.Path.{_≡_, ap, _∙_}
+use mathlib.Core.List.{List}
+use Prim.Native.Nat.{ℕ, _+_, _-_, _*_}
+use lib.ListN.{length, take, drop, length-drop}
+use borrow.Author.Needs.{needs}
+use Rattle.std.proofs.shelf.Lists.{take-rest}
+use Rattle.sheets.proofs.Steps.{Front, admitted, refused}
+use Rattle.sheets.proofs.reader.Reader.field.Needs as need
+use Rattle.sheets.proofs.reader.Reader.field.Needs.{After-split-at}
+
+-- what the reader has seen of the sheet once it cuts off the value
+seen : (c : After-split-at) → Front (c .args .self .now .rest .now) (c .in-Continue-kind .kind) (c .from .result * 256 + c .from-2 .result) (c .split-at .result .0 .now) (c .split-at .result .1 .now)
+seen c =
+    let xs : List ℕ = c .args .self .now .rest .now in
+    let n : ℕ = c .from .result * 256 + c .from-2 .result in
+    let all : take (length xs - 3) (drop 3 xs) ≡ drop 3 xs = take-rest xs 3 in
+    record {
+      long = search needs;
+      size = search needs;
+      fits = search needs;
+      named = search needs;
+      value = c .split-at .ensures .front ∙ ap (take n) all;
+      back = c .split-at .ensures .back ∙ ap (drop n) all;
+    }
+
+pub returns-then-not-admit : need.returns-then-not-admit
+returns-then-not-admit c =
+    refused _ _ (seen (need.at·returns-then-not-admit c .After-split-at)) (c .if-not-admit .ensures tt .next)
+
+pub returns : need.returns
+returns c =
+    let d = length-drop 3 (c .args .self .now .rest .now) in
+    admitted _ _ (seen (need.at·returns c .After-split-at)) _ _ _ _ (c .if-not-admit .ensures tt .next) (c .admit .ensures .whole) (c .of-2 .ensures)
+    (search needs)

@@ -1,0 +1,22 @@
+// The question sheet: bytes that hold a directory, a column and calls, as fields one after the other.
+//
+// - `Sheet` is a sheet that was read: its directory, its column, and a reader that stands at its first call.
+// - `Field` is one field of a sheet, and `Part` the bytes of its value with their place in the sheet.
+// - `Reader` hands on the fields one by one.
+//
+// `Sheet::read` decides on the whole sheet before anything in it is tried, and allocates nothing. It promises the sheet
+// that the grammar (specs/Grammar.antt) reads, and the relation above the grammar (specs/Written.antt): the fields,
+// written one after the other, are the bytes, and no other fields are; where there is no sheet, no fields are.
+//
+// It stands on `std` alone.
+mod field;
+mod reader;
+mod sheet;
+mod value;
+
+pub use field::Field;
+pub use field::Part;
+pub use reader::Reader;
+pub use sheet::Column;
+pub use sheet::MOST;
+pub use sheet::Sheet;

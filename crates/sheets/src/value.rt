@@ -1,0 +1,24 @@
+// What the value of a directory and of a call for a place may be.
+ghost use mathlib.Core.Path.{_≡_};
+ghost use Rattle.sheets.specs.Fields.{choice, sought};
+
+// F or L and a node size, or P and 0.
+pub(crate) fn is_choice(value: &[u8]) -> bool
+    ensures { λ r. ⌜ r ≡ choice (now (value .entry)) ⌝ }
+{
+    match value {
+        [b'F' | b'L', _] => true,
+        [b'P', m] => *m == 0,
+        _ => false,
+    }
+}
+
+// a or n, and a key of `width` bytes.
+pub(crate) fn is_sought(value: &[u8], width: usize) -> bool
+    ensures { λ r. ⌜ r ≡ sought width (now (value .entry)) ⌝ }
+{
+    match value {
+        [b'a' | b'n', key @ ..] => key.len() == width,
+        _ => false,
+    }
+}
