@@ -1,8 +1,29 @@
-// Key kinds: what an order is.
+// Keys and their order.
+//
+// `Key` is what a kind of key answers: does this one come before that one? Its order is lawful: it goes
+// one way only, and where a comes before b, every c comes after a or before b.
+// `Account` (a number), `Amount` (signed cents) and `Label` (sixteen bytes, small letters as capitals)
+// are the plain kinds. `Pair` has two keys of any two kinds, and `Reversed` another kind's order turned
+// round, for descending columns.
+//
+// Promised: `precedes` answers as the kind's order says, every order is lawful, and `equivalent` carries
+// what follows for every kind (`Laws` of specs/Order.antt). Stands on nothing but the standard library.
+mod account;
+mod amount;
+mod pair;
+mod reversed;
+
+pub use account::Account;
+pub use account::AccountKey;
+pub use amount::Amount;
+pub use amount::AmountKey;
+pub use pair::Pair;
+pub use pair::PairKey;
+pub use reversed::Reversed;
+pub use reversed::ReversedKey;
 ghost use mathlib.Core.Path.{_≡_};
 ghost use mathlib.Core.Bool.{Bool};
-ghost use lib.Dec.{ltb};
-ghost use Rattle.keys.specs.Order.{Lawful};
+ghost use Rattle.keys.specs.Order.{Lawful, equivalent-under, Laws};
 
 pub trait Key: Copy {
     // does the first come before the second?
@@ -14,15 +35,10 @@ pub trait Key: Copy {
         ensures { λ r. ⌜ r ≡ before (now (self .entry)) (now (other .entry)) ⌝ };
 }
 
-#[derive(Clone, Copy)]
-pub struct Account {
-    pub number: u32,
-}
-
-pub impl Key for Account as AccountKey {
-    ghost before = { λ a b. ltb (a .number) (b .number) };
-
-    fn precedes(&self, other: &Account) -> bool {
-        self.number < other.number
-    }
+// Does neither of the two come before the other?
+pub fn equivalent<K: Key>(a: &K, b: &K) -> bool
+    ensures answers { λ r. ⌜ r ≡ equivalent-under (K·Key .before) (now (a .entry)) (now (b .entry)) ⌝ }
+    ensures laws { λ _. ⌜ Laws (K·Key .before) ⌝ }
+{
+    !a.precedes(b) && !b.precedes(a)
 }
