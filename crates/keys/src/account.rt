@@ -1,6 +1,6 @@
 // An account number, ordered by size.
-use crate::Key;
 ghost use lib.Dec.{ltb};
+use crate::Key;
 
 #[derive(Clone, Copy)]
 pub struct Account {

@@ -1,6 +1,6 @@
 // A signed number of cents, ordered by size.
-use crate::Key;
 ghost use lib.Signed.{ltZ};
+use crate::Key;
 
 #[derive(Clone, Copy)]
 pub struct Amount {

@@ -1,6 +1,6 @@
 // Two keys of any two kinds: the second decides where the first are equivalent.
-use crate::Key;
 ghost use Rattle.keys.specs.Order.{before-or-then};
+use crate::Key;
 
 #[derive(Clone, Copy)]
 pub struct Pair<A, B> {

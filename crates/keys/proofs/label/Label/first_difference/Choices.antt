@@ -1,0 +1,5 @@
+use Rattle.keys.specs.Weights.{Same-below}
+use Rattle.keys.proofs.label.Label.first_difference.Given as given
+
+abbrev pub Inv-loop-place : given.InvT-loop-place
+Inv-loop-place l = Same-below (l .place) (l .self) (l .other)
