@@ -14,7 +14,7 @@ abbrev pub weight-of : ℕ → ℕ
 weight-of byte = cond (leb 97 byte && leb byte 122) (byte - 32) byte
 
 -- what the byte at a place of a label weighs
-abbrev pub weight-at : Label → ℕ → ℕ
+unfoldable pub weight-at : Label → ℕ → ℕ
 weight-at label place = weight-of (getD (label .bytes) place 0)
 
 -- does the test pass at some number below n?
