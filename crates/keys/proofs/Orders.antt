@@ -30,11 +30,11 @@ module _ {K : Type 0} {before : K → K → Bool} (lawful : Lawful before) where
         chain = chain;
         before-later = before-later;
         earlier-before = earlier-before;
-        reflexive = λ a. grind (arith, irreflexive);
-        symmetric = λ a b. grind arith;
-        joins = λ a b c ab bc. grind (arith, chain);
-        same-above = λ a b c ab. grind (arith, chain);
-        same-below = λ a b c ab. grind (arith, chain);
+        equivalent-reflexive = λ a. grind (arith, irreflexive);
+        equivalent-symmetric = λ a b. grind arith;
+        equivalent-transitive = λ a b c ab bc. grind (arith, chain);
+        equivalent-before = λ a b c ab. grind (arith, chain);
+        equivalent-after = λ a b c ab. grind (arith, chain);
       }
 
 -- values of P ordered by a first part, and by a second where the first are equivalent

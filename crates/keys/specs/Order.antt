@@ -22,7 +22,7 @@ before-or-then before a b second = before a b || (equivalent-under before a b &&
 pub record Laws {K : Type 0} (before : K → K → Bool) : Type 0 where
   -- no key comes before itself
   pub irreflexive : (a : K) → before a a ≡ false
-  -- what comes before what comes before c comes before c
+  -- where a comes before b, and b before c, a comes before c
   pub transitive : (a b c : K) → before a b ≡ true → before b c ≡ true → before a c ≡ true
   -- where a does not come before b, nor b before c, a does not come before c
   pub chain : (a b c : K) → before a b ≡ false → before b c ≡ false → before a c ≡ false
@@ -30,10 +30,13 @@ pub record Laws {K : Type 0} (before : K → K → Bool) : Type 0 where
   pub before-later : (a b c : K) → before a b ≡ true → before c b ≡ false → before a c ≡ true
   -- where b comes before c, so does each a that b does not come before
   pub earlier-before : (a b c : K) → before b a ≡ false → before b c ≡ true → before a c ≡ true
-  -- equivalence is reflexive, symmetric and transitive
-  pub reflexive : (a : K) → equivalent-under before a a ≡ true
-  pub symmetric : (a b : K) → equivalent-under before a b ≡ equivalent-under before b a
-  pub joins : (a b c : K) → equivalent-under before a b ≡ true → equivalent-under before b c ≡ true → equivalent-under before a c ≡ true
-  -- equivalent keys come before the same keys, and the same keys come before them
-  pub same-above : (a b c : K) → equivalent-under before a b ≡ true → before a c ≡ before b c
-  pub same-below : (a b c : K) → equivalent-under before a b ≡ true → before c a ≡ before c b
+  -- each key is equivalent to itself
+  pub equivalent-reflexive : (a : K) → equivalent-under before a a ≡ true
+  -- a is equivalent to b exactly where b is to a
+  pub equivalent-symmetric : (a b : K) → equivalent-under before a b ≡ equivalent-under before b a
+  -- two keys equivalent to a third are equivalent
+  pub equivalent-transitive : (a b c : K) → equivalent-under before a b ≡ true → equivalent-under before b c ≡ true → equivalent-under before a c ≡ true
+  -- equivalent keys come before the same keys
+  pub equivalent-before : (a b c : K) → equivalent-under before a b ≡ true → before a c ≡ before b c
+  -- the same keys come before equivalent keys
+  pub equivalent-after : (a b c : K) → equivalent-under before a b ≡ true → before c a ≡ before c b

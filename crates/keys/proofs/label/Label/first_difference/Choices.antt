@@ -1,3 +1,4 @@
+-- The places passed weigh the same in both.
 use Rattle.keys.specs.Weights.{Same-below}
 use Rattle.keys.proofs.label.Label.first_difference.Given as given
 

@@ -1,3 +1,4 @@
+-- The byte's weight is the place's.
 use Rattle.keys.specs.Weights.{weight-at}
 use Rattle.keys.proofs.label.Label.weight_at.Needs as need
 

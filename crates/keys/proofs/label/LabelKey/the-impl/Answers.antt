@@ -1,3 +1,4 @@
+-- The order of labels by weight is lawful.
 use Rattle.keys.proofs.Weighing.{lawful-lighter}
 use Rattle.keys.proofs.label.LabelKey.the-impl.Needs as need
 

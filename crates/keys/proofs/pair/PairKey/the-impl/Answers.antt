@@ -1,3 +1,4 @@
+-- A pair is ordered by its first key, then by its second.
 use Rattle.keys.proofs.Orders.{lawful-then}
 use Rattle.keys.proofs.pair.PairKey.the-impl.Needs as need
 
