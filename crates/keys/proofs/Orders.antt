@@ -38,7 +38,9 @@ module _ {K : Type 0} {before : K → K → Bool} (lawful : Lawful before) where
       }
 
 -- values of P ordered by a first part, and by a second where the first are equivalent
-module _ {P A B : Type 0} (first : P → A) (second : P → B) {before : A → A → Bool} {last : B → B → Bool} (lawful : Lawful before) (lawful-last : Lawful last) where
+module _
+    {P A B : Type 0} (first : P → A) (second : P → B)
+    {before : A → A → Bool} {last : B → B → Bool} (lawful : Lawful before) (lawful-last : Lawful last) where
   abbrev ordered : P → P → Bool
   ordered a b = before-or-then before (first a) (first b) (last (second a) (second b))
 

@@ -35,7 +35,8 @@ pub record Laws {K : Type 0} (before : K → K → Bool) : Type 0 where
   -- a is equivalent to b exactly where b is to a
   pub equivalent-symmetric : (a b : K) → equivalent-under before a b ≡ equivalent-under before b a
   -- two keys equivalent to a third are equivalent
-  pub equivalent-transitive : (a b c : K) → equivalent-under before a b ≡ true → equivalent-under before b c ≡ true → equivalent-under before a c ≡ true
+  pub equivalent-transitive : (a b c : K) →
+      equivalent-under before a b ≡ true → equivalent-under before b c ≡ true → equivalent-under before a c ≡ true
   -- equivalent keys come before the same keys
   pub equivalent-before : (a b c : K) → equivalent-under before a b ≡ true → before a c ≡ before b c
   -- the same keys come before equivalent keys
