@@ -8,9 +8,10 @@ use Rattle.std.specs.Options.{isSome}
 use Rattle.std.specs.declared.option.Option.{Option}
 use Rattle.std.specs.declared.option.Option.the-variants.{Some, None}
 use Rattle.sheets.specs.declared.reader.Stage.{Stage}
+use Rattle.sheets.specs.declared.reader.Stage.the-variants as stage
 use Rattle.sheets.specs.Fields.{Piece}
 use Rattle.sheets.specs.Grammar.{step-at, step, bind, Step, State, pieces, left, ended}
-use Rattle.sheets.proofs.Options.{bind-same}
+use Rattle.sheets.proofs.Options.{none-some, some-same, bind-same}
 use Rattle.sheets.proofs.Steps.{taken, shorter}
 
 -- a field, and then those that are left after it
@@ -55,3 +56,18 @@ stop-at s z (b ∷ bs) e h = more-at s z (b ∷ bs) (omega arith) ∙ ap after-s
 -- no field is taken where the sheet may not end: there are none to the end
 pub left-stop : (q : State) → None ≡ step q → ended (q .stage) ≡ None → left q ≡ None
 left-stop q e h = stop-at (q .stage) (q .whole) (q .rest) e h
+
+-- nothing is left at the end
+pub ended-nil : (s : Stage) (fs : List Piece) → ended s ≡ Some fs → fs ≡ []
+ended-nil stage.Start fs e = none-some fs e
+ended-nil stage.Chosen fs e = none-some fs e
+ended-nil stage.Accounts fs e = sym (some-same _ _ e)
+ended-nil stage.Labels fs e = sym (some-same _ _ e)
+
+no-more : (s : Stage) (z : ℕ) (bs : List ℕ) (fs : List Piece) → None ≡ step-at s z bs → pieces (length bs) s z bs ≡ Some fs → fs ≡ []
+no-more s z [] fs e h = ended-nil s fs h
+no-more s z (b ∷ bs) fs e h = none-some fs (ap after-step e ∙ sym (more-at s z (b ∷ bs) (omega arith)) ∙ h)
+
+-- no field is taken where fields go to the end: none is left
+pub left-end : (q : State) (fs : List Piece) → None ≡ step q → left q ≡ Some fs → fs ≡ []
+left-end q fs e h = no-more (q .stage) (q .whole) (q .rest) fs e h

@@ -19,6 +19,7 @@ use Rattle.sheets.specs.Fields.{letter, Piece}
 use Rattle.sheets.specs.Grammar.{step-at, bind, Step, pieces, ended, fields}
 use Rattle.sheets.specs.Written.{framed, Placed, Within, Spells, Spelled}
 use Rattle.sheets.proofs.Letters.{letter-kind, kind-letter}
+use Rattle.sheets.proofs.Left.{ended-nil}
 use Rattle.sheets.proofs.Options.{none-some, some-same, bind-parts, when-parts}
 use Rattle.sheets.proofs.Stages.{Runs, ordered-runs, runs-ordered}
 use Rattle.sheets.proofs.Steps.{Front, admitted, Taken, taken}
@@ -72,12 +73,6 @@ took {s} {z} {bs} {t} w g =
     ∷ (g .value i ++ g .rest i))
     ∙ ap (λ l. g .tag ∷ g .hi ∷ g .lo ∷ l) (take-append-drop n (g .after))
     ∙ sym (g .bytes)
-
-ended-nil : (s : Stage) (fs : List Piece) → ended s ≡ Some fs → fs ≡ []
-ended-nil stage.Start fs e = none-some fs e
-ended-nil stage.Chosen fs e = none-some fs e
-ended-nil stage.Accounts fs e = sym (some-same _ _ e)
-ended-nil stage.Labels fs e = sym (some-same _ _ e)
 
 -- fs may stand from s and p on, and bs are their bytes
 record Stand (s : Stage) (p : ℕ) (bs : List ℕ) (fs : List Piece) : Type 0 where

@@ -10,13 +10,19 @@
 //
 // It stands on `std` alone.
 mod field;
+mod key;
 mod reader;
+mod request;
 mod sheet;
 mod value;
 
 pub use field::Field;
 pub use field::Part;
+pub use key::AccountSheetKey;
+pub use key::LabelSheetKey;
+pub use key::SheetKey;
 pub use reader::Reader;
+pub use request::Request;
 pub use sheet::Column;
 pub use sheet::MOST;
 pub use sheet::Sheet;

@@ -4,10 +4,12 @@ ghost use Rattle.std.specs.Options.{mapped};
 ghost use Rattle.std.specs.declared.option.Option.the-variants.{Some};
 ghost use Rattle.sheets.specs.Fields.{told};
 ghost use Rattle.sheets.specs.Grammar.{col, column-of, viewed, sheet};
+ghost use Rattle.sheets.specs.Said.{layout-of};
 ghost use Rattle.sheets.specs.Written.{Written-as};
 use crate::field::Field;
 use crate::field::Part;
 use crate::reader::Reader;
+use indexes::Layout;
 
 // The bytes that a sheet may have.
 pub const MOST: usize = 65536;
@@ -41,6 +43,17 @@ impl<'a> Column<'a> {
 }
 
 impl<'a> Sheet<'a> {
+    // What is to be built over the column.
+    pub fn layout(&self) -> Layout
+        ensures { λ r. ⌜ r ≡ layout-of (now (now (self .entry) .directory .bytes)) ⌝ }
+    {
+        match self.directory.bytes {
+            [b'F', m, ..] => Layout::Full { slots: *m },
+            [b'L', m, ..] => Layout::Level { slots: *m },
+            _ => Layout::Bare,
+        }
+    }
+
     // The sheet that the bytes are, unless they are malformed.
     pub fn read(bytes: &'a [u8]) -> Option<Sheet<'a>>
         ensures said { λ r. ⌜ mapped viewed r ≡ mapped Some (sheet (now (bytes .entry))) ⌝ }

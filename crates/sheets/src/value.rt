@@ -1,6 +1,7 @@
-// What the value of a directory and of a call for a place may be.
+// What the value of a directory and of a call for a place may be, and the number that four bytes are.
 ghost use mathlib.Core.Path.{_≡_};
 ghost use Rattle.sheets.specs.Fields.{choice, sought};
+ghost use Rattle.sheets.specs.Said.{four-bytes};
 
 // F or L and a node size, or P and 0.
 pub(crate) fn is_choice(value: &[u8]) -> bool
@@ -20,5 +21,15 @@ pub(crate) fn is_sought(value: &[u8], width: usize) -> bool
     match value {
         [b'a' | b'n', key @ ..] => key.len() == width,
         _ => false,
+    }
+}
+
+// The big-endian number of four bytes.
+pub(crate) fn number(bytes: &[u8]) -> Option<u32>
+    ensures { λ r. ⌜ r ≡ four-bytes (now (bytes .entry)) ⌝ }
+{
+    match bytes {
+        [a, b, c, d] => Some(u32::from_be_bytes([*a, *b, *c, *d])),
+        _ => None,
     }
 }
