@@ -8,6 +8,8 @@ use Rattle.std.specs.shelf.Digits.{number}
 use Rattle.std.specs.Options.{mapped}
 use Rattle.std.specs.declared.option.Option.{Option}
 use Rattle.std.specs.declared.option.Option.the-variants.{Some, None}
+use Rattle.keys.specs.declared.account.Account.{Account}
+use Rattle.keys.specs.declared.label.Label.{Label}
 use Rattle.indexes.specs.declared.index.Side.the-variants.{At, After}
 use Rattle.indexes.specs.declared.layout.Layout.{Layout}
 use Rattle.indexes.specs.declared.layout.Layout.the-variants as layout
@@ -23,6 +25,14 @@ abbrev pub layout-of : List ℕ → Layout
 layout-of [] = layout.Bare
 layout-of (a ∷ []) = layout.Bare
 layout-of (a ∷ m ∷ v) = cond (eqb a full) (layout.Full m) (cond (eqb a level) (layout.Level m) layout.Bare)
+
+-- an account number, big-endian
+abbrev pub account-spelled : List ℕ → Account
+account-spelled bs = record { number = number 256 bs }
+
+-- a label, byte by byte
+abbrev pub label-spelled : List ℕ → Label
+label-spelled bs = record { bytes = bs }
 
 -- the key that bytes spell, if there are w of them
 abbrev pub key-of : {K : Type 0} → ℕ → (List ℕ → K) → List ℕ → Option K

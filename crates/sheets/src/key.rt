@@ -4,8 +4,7 @@ ghost use mathlib.Core.List.{List};
 ghost use Prim.Native.Nat.{ℕ, _<_};
 ghost use Rattle.std.specs.Of.Vec.{vec-items};
 ghost use Rattle.std.specs.Vec.{made};
-ghost use Rattle.std.specs.shelf.Digits.{number as number-in};
-ghost use Rattle.sheets.specs.Said.{key-of, keys-of};
+ghost use Rattle.sheets.specs.Said.{account-spelled, label-spelled, key-of, keys-of};
 use crate::field::Part;
 use crate::value::number;
 use keys::Account;
@@ -36,7 +35,7 @@ pub trait SheetKey: Key {
 pub impl SheetKey for Account as AccountSheetKey {
     ghost width = { 4 };
 
-    ghost spelled = { λ bs. record { number = number-in 256 bs } };
+    ghost spelled = { account-spelled };
 
     fn width() -> usize {
         4
@@ -53,7 +52,7 @@ pub impl SheetKey for Account as AccountSheetKey {
 pub impl SheetKey for Label as LabelSheetKey {
     ghost width = { 16 };
 
-    ghost spelled = { λ bs. record { bytes = bs } };
+    ghost spelled = { label-spelled };
 
     fn width() -> usize {
         16

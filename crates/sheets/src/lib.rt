@@ -17,6 +17,7 @@ mod sheet;
 mod value;
 
 pub use field::Field;
+pub use field::Kind;
 pub use field::Part;
 pub use key::AccountSheetKey;
 pub use key::LabelSheetKey;
