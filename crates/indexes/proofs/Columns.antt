@@ -1,15 +1,15 @@
--- A column in order, by the test and by places. Assumes nothing.
-use mathlib.Core.Path.{_≡_, refl, sym, ap, _∙_}
-use mathlib.Core.Bool.{Bool, true, false, not, _&&_}
+-- A column in order, by the test and by places; and what a row past the end is answered.
+use mathlib.Core.Path.{_≡_, refl, sym}
+use mathlib.Core.Bool.{Bool, true, false, not}
 use mathlib.Core.List.{List, [], _∷_}
-use mathlib.Core.Logic.{_⊎_, inl, inr}
+use mathlib.Core.Logic.{inl, inr}
 use Prim.Native.Nat.{ℕ, zero, suc, _+_, _-_, _<_, _≤_}
 use native.Mathlib.Omega.{arith}
 use native.Mathlib.Numerals.{add-one}
 use lib.ListN.{length, getD}
-use Rattle.std.proofs.shelf.Tests.{and-parts, and-from, not-true, not-from-false, cases-bool, both-ways, cond-true, cond-false, lt-ltb, le-ltb}
+use Rattle.std.proofs.shelf.Tests.{and-parts, and-from, not-true, not-from-false, cases-bool, both-ways, cond-false, le-ltb}
 use Rattle.std.proofs.shelf.Elements.{pair-read}
-use Rattle.std.specs.declared.result.Result.the-variants.{Ok, Err}
+use Rattle.std.specs.declared.result.Result.the-variants.{Err}
 use Rattle.indexes.specs.declared.decline.Decline.the-variants.{NoSuchRow}
 use Rattle.indexes.specs.Meaning.{Ordered, row-answer}
 use Rattle.indexes.specs.Opening.{in-order}
@@ -43,8 +43,5 @@ module _ {K : Type 0} (before : K → K → Bool) where
       ]
 
 module _ {K : Type 0} (rows : List K) (place : ℕ) where
-  pub row-within : place < length rows → row-answer rows place ≡ Ok tt
-  row-within h = cond-true _ _ _ (lt-ltb place (length rows) h)
-
   pub row-past : length rows ≤ place → row-answer rows place ≡ Err NoSuchRow
   row-past h = cond-false _ _ _ (le-ltb place (length rows) h)

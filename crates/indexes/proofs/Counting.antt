@@ -1,16 +1,15 @@
 -- Where a search over a column in order ends: at the place that counting over all rows gives.
-use mathlib.Core.Path.{_≡_, refl, sym, ap, subst, _∙_}
-use mathlib.Core.Bool.{Bool, true, false, not, cond}
+use mathlib.Core.Path.{_≡_, sym, ap, _∙_}
+use mathlib.Core.Bool.{Bool, true, false}
 use mathlib.Core.List.{List, [], _∷_}
-use mathlib.Core.Logic.{_⊎_, inl, inr}
-use Prim.Native.Nat.{ℕ, zero, suc, _+_, _-_, _/_, _^_, _<_, _≤_}
+use Prim.Native.Nat.{ℕ, zero, suc, _+_, _-_, _/_, _<_, _≤_}
 use native.Mathlib.Omega.{arith}
 use lib.ListN.{length, getD}
-use Rattle.std.specs.Slices.{Ranks}
 use Rattle.std.proofs.shelf.Sorted.{ascends-far}
 use Rattle.std.proofs.shelf.Lists.{getD-read}
-use Rattle.std.proofs.shelf.Tests.{cases-bool, both-ways, not-true, not-from-false}
+use Rattle.std.proofs.shelf.Tests.{not-true, not-from-false}
 use Rattle.keys.specs.Order.{Lawful}
+use Rattle.keys.proofs.Orders.{laws}
 use Rattle.indexes.specs.declared.index.Side.{Side}
 use Rattle.indexes.specs.declared.index.Side.the-variants.{At, After}
 use Rattle.indexes.specs.Meaning.{count, passed, place-of, Ordered}
@@ -31,24 +30,14 @@ count-cut p d (x ∷ xs) (suc r) cut =
     omega arith)
 
 module _ {K : Type 0} (before : K → K → Bool) (lawful : Lawful before) where
-  never : (a b : K) → before a b ≡ false → before a b ≡ true → ⊥
-  never a b f t = both-ways (before a b) f t
-
-  pub chain : (x y z : K) → before x y ≡ false → before y z ≡ false → before x z ≡ false
-  chain x y z p q = elim (cases-bool (before x z)) [
-    | inr e ↦ e
-    | inl e ↦ elim (lawful .splits x z y e) [ inl u ↦ absurd (never x y p u) | inr u ↦ absurd (never y z q u) ]
-  ]
-
   pub far : (rows : List K) → Ordered before rows → (i j : ℕ) (d : K) → i ≤ j → j < length rows → before (getD rows j d) (getD rows i d) ≡ false
-  far rows up = ascends-far before (record { one-way = lawful .one-way; chain = chain }) rows (λ k d l h. up k d h)
+  far rows up = ascends-far before (record { one-way = lawful .one-way; chain = laws lawful .chain }) rows (λ k d l h. up k d h)
 
   -- a row before one that is passed is passed
   pub passes-first : (rows : List K) → Ordered before rows → (key : K) (side : Side) (i j : ℕ) → i ≤ j → j < length rows → passed-at before rows key side j ≡ true → passed-at before rows key side i ≡ true
-  passes-first rows up key At i j le in′ e =
-      elim (lawful .splits (getD rows j key) key (getD rows i key) e) [ inl u ↦ absurd (never _ _ (far rows up i j key le in′) u) | inr u ↦ u ]
+  passes-first rows up key At i j le in′ e = laws lawful .earlier-before (getD rows i key) (getD rows j key) key (far rows up i j key le in′) e
   passes-first rows up key After i j le in′ e =
-      not-from-false _ (chain key (getD rows j key) (getD rows i key) (not-true _ e) (far rows up i j key le in′))
+      not-from-false _ (laws lawful .chain key (getD rows j key) (getD rows i key) (not-true _ e) (far rows up i j key le in′))
 
   -- the node search over rows in order cuts them at the place
   pub sought-cut : (rows : List K) → Ordered before rows → (key : K) (side : Side) → Cut (passed-at before rows key side) (length rows) (sought before rows key side .place)
@@ -57,10 +46,6 @@ module _ {K : Type 0} (before : K → K → Bool) (lawful : Lawful before) where
 
   pub sought-place : (rows : List K) → Ordered before rows → (key : K) (side : Side) → sought before rows key side .place ≡ place-of before rows key side
   sought-place rows up key side = sym (count-cut (passed before key side) key rows _ (sought-cut rows up key side))
-
-  -- the place of a key cuts a column in order
-  pub place-cut : (rows : List K) → Ordered before rows → (key : K) (side : Side) → Cut (passed-at before rows key side) (length rows) (place-of before rows key side)
-  place-cut rows up key side = rw (← sought-place rows up key side) (sought-cut rows up key side)
 
 pub sought-rounds : {K : Type 0} (before : K → K → Bool) (rows : List K) (key : K) (side : Side) → sought before rows key side .rounds ≤ bits (length rows)
 sought-rounds before rows key side = rounds-le (passed-at before rows key side) (length rows) (bits (length rows)) 0 (length rows) (omega (arith, under-bits (length rows)))
@@ -81,15 +66,3 @@ module _ {K : Type 0} (before : K → K → Bool) (rows : List K) (key : K) (sid
       let m : lo + (hi - lo) / 2 ≡ middle lo hi = omega arith in
       let at-key : row ≡ getD rows (lo + (hi - lo) / 2) key = getD-read rows (lo + (hi - lo) / 2) row (omega arith) is key in
       rw m (halving-down (passed-at before rows key side) (length rows) lo hi lt le (sym (no′ ∙ ap (passed before key side) (at-key ∙ ap (λ i. getD rows i key) m))))
-
-pub count-mono : {K : Type 0} (p q : K → Bool) → ((x : K) → p x ≡ true → q x ≡ true) → (xs : List K) → count p xs ≤ count q xs
-count-mono p q h [] = omega arith
-count-mono p q h (x ∷ xs) =
-    let rest = count-mono p q h xs in
-    elim (cases-bool (p x)) [
-      | inl e ↦ rw (e, h x e) (omega arith)
-      | inr e ↦ rw e (omega arith)
-    ]
-
-pub at-le-after : {K : Type 0} (before : K → K → Bool) → Lawful before → (rows : List K) (key : K) → place-of before rows key At ≤ place-of before rows key After
-at-le-after before lawful rows key = count-mono (passed before key At) (passed before key After) (λ x e. not-from-false _ (lawful .one-way x key e)) rows

@@ -1,17 +1,16 @@
 -- The rounds of a search: how it goes on, where it ends, and how many rounds it can take.
 use mathlib.Core.Path.{_≡_, refl, sym, ap, subst, _∙_}
 use mathlib.Core.Bool.{Bool, true, false, cond}
-use mathlib.Core.Logic.{_⊎_, inl, inr}
-use Prim.Native.Nat.{ℕ, zero, suc, _+_, _-_, _*_, _/_, _^_, _<_, _≤_}
+use mathlib.Core.Logic.{inl, inr}
+use Prim.Native.Nat.{ℕ, zero, suc, _+_, _-_, _*_, _^_, _<_, _≤_}
 use native.Mathlib.Omega.{arith}
 use native.Mathlib.Nat.{pow-suc}
 use lib.Dec.{ltb}
-use lib.ListN.{length}
 use lib.Pow.{pow-mono}
 use Rattle.std.specs.shelf.Digits.{digitsOf}
 use Rattle.std.proofs.shelf.Digits.{number-lt, under-digitsOf, number-digitsOf, length-digitsOf-le}
 use Rattle.std.proofs.shelf.Tests.{cases-lt, cases-bool, cond-true, cond-false, lt-ltb, le-ltb, both-ways}
-use Rattle.indexes.specs.Search.{Sought, middle, one-more, halving, bits, Boundary}
+use Rattle.indexes.specs.Search.{middle, one-more, halving, bits, Boundary}
 
 -- every place below r passes, and every other place below n does not
 pub record Cut (pass : ℕ → Bool) (n r : ℕ) : Type 0 where

@@ -1,7 +1,6 @@
 -- The opening of a frozen column, and what a bare one means. Assumes nothing.
-use mathlib.Core.Bool.{Bool, true, false, not, cond, _&&_}
+use mathlib.Core.Bool.{Bool, true, not, cond, _&&_}
 use mathlib.Core.List.{List, [], _∷_}
-use Prim.Native.Nat.{ℕ, _≤_}
 use lib.Dec.{ltb}
 use lib.ListN.{length}
 use denote.Ref.{now}
@@ -10,13 +9,8 @@ use Rattle.std.specs.declared.result.Result.the-variants.{Ok, Err}
 use Rattle.indexes.specs.declared.frozen.FrozenIndex.{FrozenIndex}
 use Rattle.indexes.specs.declared.decline.Decline.{Decline}
 use Rattle.indexes.specs.declared.decline.Decline.the-variants.{TooManyRows, OutOfOrder}
-use Rattle.indexes.specs.Meaning.{Meaning, Ordered}
+use Rattle.indexes.specs.Meaning.{Meaning, Meant}
 use Rattle.indexes.specs.Search.{sought, bits}
-
--- what a frozen column keeps from its opening on
-pub record Sound {K : Type 0} (before : K → K → Bool) (rows : List K) : Type 0 where
-  pub few : length rows ≤ 1048576
-  pub ordered : Ordered before rows
 
 -- the rows that a frozen index holds
 abbrev pub column-of : {K : Type 0} → FrozenIndex K → List K
@@ -29,6 +23,10 @@ bare before rows = record {
   comparisons = λ key side. sought before rows key side .rounds;
   ceiling = bits (length rows);
 }
+
+-- from its opening on, what it means holds
+abbrev pub Open : {K : Type 0} → (K → K → Bool) → FrozenIndex K → Type 0
+Open before x = Meant before (bare before (column-of x))
 
 -- does no row come before its predecessor?
 abbrev pub in-order : {K : Type 0} → (K → K → Bool) → List K → Bool

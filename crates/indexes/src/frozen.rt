@@ -2,7 +2,7 @@
 ghost use mathlib.Core.Path.{_≡_};
 ghost use mathlib.Core.List.{[]};
 ghost use Rattle.std.specs.declared.result.Result.the-variants.{Ok};
-ghost use Rattle.indexes.specs.Opening.{Sound, column-of, bare, in-order, opening, kept-or};
+ghost use Rattle.indexes.specs.Opening.{Open, column-of, bare, in-order, opening, kept-or};
 ghost use Rattle.indexes.specs.declared.layout.Layout.the-variants.{Bare};
 use crate::Counted;
 use crate::Decline;
@@ -35,7 +35,7 @@ impl<'a, K: Key> FrozenIndex<'a, K> {
     // A bare column without rows.
     pub fn empty() -> Self
         ensures holds { λ r. ⌜ column-of r ≡ [] ⌝ }
-        ensures opened { λ r. ⌜ Sound (K·Key .before) (column-of r) ⌝ }
+        ensures opened { λ r. ⌜ Open (K·Key .before) r ⌝ }
     {
         FrozenIndex { rows: &[] }
     }
@@ -51,8 +51,8 @@ impl<'a, K: Key> FrozenIndex<'a, K> {
     pub fn open(&mut self, column: &'a [K]) -> Result<(), Decline>
         ensures answers { λ r. ⌜ r ≡ opening (K·Key .before) (now (column .entry)) ⌝ }
         ensures holds { λ r. ⌜ column-of (now (self .exit)) ≡ kept-or r (column-of (now (self .entry))) (now (column .entry)) ⌝ }
-        ensures opened { λ r. ⌜ (r ≡ Ok tt → Sound (K·Key .before) (column-of (now (self .exit)))) ⌝ }
-        ensures stays { λ _. ⌜ (Sound (K·Key .before) (column-of (now (self .entry))) → Sound (K·Key .before) (column-of (now (self .exit)))) ⌝ }
+        ensures opened { λ r. ⌜ (r ≡ Ok tt → Open (K·Key .before) (now (self .exit))) ⌝ }
+        ensures stays { λ _. ⌜ (Open (K·Key .before) (now (self .entry)) → Open (K·Key .before) (now (self .exit))) ⌝ }
     {
         if column.len() > MAX_ROWS {
             return Err(Decline::TooManyRows);
@@ -68,7 +68,7 @@ impl<'a, K: Key> FrozenIndex<'a, K> {
 pub impl<'a, K: Key> Index<K> for FrozenIndex<'a, K> as FrozenAsIndex {
     ghost means = { λ x. bare (K·Key .before) (column-of x) };
 
-    ghost opened = { λ x. Sound (K·Key .before) (column-of x) };
+    ghost opened = { Open (K·Key .before) };
 
     fn len(&self) -> usize {
         self.rows.len()
@@ -79,12 +79,11 @@ pub impl<'a, K: Key> Index<K> for FrozenIndex<'a, K> as FrozenAsIndex {
     }
 
     fn row(&self, place: usize, held: &mut K) -> Result<(), Decline> {
-        if place < self.rows.len() {
-            *held = self.rows[place];
-            Ok(())
-        } else {
-            Err(Decline::NoSuchRow)
-        }
+        let Some(row) = self.rows.get(place) else {
+            return Err(Decline::NoSuchRow);
+        };
+        *held = *row;
+        Ok(())
     }
 
     fn place(&self, key: &K, side: Side) -> Counted<usize> {

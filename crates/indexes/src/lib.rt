@@ -40,5 +40,4 @@ pub use layout::LayoutDebug;
 pub use layout::LayoutEq;
 pub use layout::LayoutPartialEq;
 pub use lent::LentAsIndex;
-pub use node::bits_of;
 pub use node::search;

@@ -1,16 +1,18 @@
 -- Numbers that ascend: where a number ranks among them, whether it is there, and that edits keep them ascending.
 use mathlib.Core.Path.{_≡_, refl, sym, ap, subst, _∙_}
 use mathlib.Core.List.{List, [], _∷_}
-use mathlib.Core.Bool.{Bool, true, false}
-use mathlib.Core.Logic.{_⊎_, inl, inr, ⊎-elim}
+use mathlib.Core.Bool.{true, false, cond}
+use mathlib.Core.Logic.{_⊎_, ⊎-elim}
 use Prim.Native.Nat.{ℕ, zero, suc, _+_, _-_, _<_, _≤_}
 use native.Mathlib.Omega.{arith}
 use lib.Dec.{eqb}
 use lib.ListN.{length, getD}
-use Rattle.std.proofs.shelf.Tests.{lt-ltb, le-ltb, eq-eqb, ne-eqb, cases-order, cases-eq, cases-lt, or-left, or-right, false≢true}
+use Rattle.std.proofs.shelf.Tests.{lt-ltb, le-ltb, eq-eqb, ne-eqb, cases-order, cases-eq, cases-lt, cases-bool, or-left, or-right, false≢true}
 use Rattle.std.proofs.shelf.Edits.{length-inserted, getD-inserted-below, getD-inserted-at, getD-inserted-above, length-removed, getD-removed-below, getD-removed-above}
 use Rattle.std.specs.shelf.Lists.{inserted, removed}
-use Rattle.layers.specs.Table.{Ascending, has, under}
+use Rattle.std.specs.Options.{isSome}
+use Rattle.std.specs.declared.option.Option.the-variants.{Some, None}
+use Rattle.layers.specs.Table.{Ascending, has, under, position-of}
 
 -- the first `at` numbers are below row, and the others are not
 pub record Ranked (l : List ℕ) (row at : ℕ) : Type 0 where
@@ -143,3 +145,30 @@ ascending-removed l at asc lt i j ij jl =
     (cases-lt j at))
     (λ ig. let hi = getD-removed-above l at 0 i ig lt in let hj = getD-removed-above l at 0 j (omega arith) lt in let a = asc (i + 1) (j + 1) (omega arith) (omega arith) in omega arith)
     (cases-lt i at)
+
+-- a number at a position is there, at its rank
+pub record Stands (l : List ℕ) (row at : ℕ) : Type 0 where
+  pub there : has l row ≡ true
+  pub rank : at ≡ under l row
+  pub within : at < length l
+
+pub stands : (l : List ℕ) (row at : ℕ) → Ascending l → Some at ≡ position-of l row → Stands l row at
+stands l row at asc e = ⊎-elim
+    (λ (t : has l row ≡ true).
+    let r : at ≡ under l row = some-same at (under l row) (e ∙ ap (λ b. cond b (Some (under l row)) None) t) in
+    record { there = t; rank = r; within = omega (arith, stands-at l row asc t .0) })
+    (λ (f : has l row ≡ false). absurd (none-some at (sym (e ∙ ap (λ b. cond b (Some (under l row)) None) f))))
+    (cases-bool (has l row))
+  where
+    some-same : (x y : ℕ) → Some x ≡ Some y → x ≡ y
+    some-same x y e = cc
+
+    none-some : (x : ℕ) → None ≡ Some x → ⊥
+    none-some x e = let z : _≡_ {A = ℕ} 0 1 = cc in omega arith
+
+-- a number without a position is not there
+pub absent : (l : List ℕ) (row : ℕ) → isSome (position-of l row) ≡ false → has l row ≡ false
+absent l row e = ⊎-elim
+    (λ (t : has l row ≡ true). absurd (false≢true (sym e ∙ ap (λ b. isSome (cond b (Some (under l row)) None)) t)))
+    (λ f. f)
+    (cases-bool (has l row))

@@ -1,14 +1,14 @@
 -- Which numbers are in a list after an edit, and how many are below a bound.
-use mathlib.Core.Path.{_≡_, refl, sym, ap, subst, _∙_, fun-ext}
+use mathlib.Core.Path.{_≡_, refl, sym, ap, _∙_}
 use mathlib.Core.List.{List, [], _∷_, _++_}
 use mathlib.Core.Bool.{Bool, true, false, cond, _||_}
-use mathlib.Core.Logic.{_⊎_, inl, inr, ⊎-elim}
-use Prim.Native.Nat.{ℕ, zero, suc, _+_, _-_, _<_, _≤_}
+use mathlib.Core.Logic.{_⊎_, ⊎-elim}
+use Prim.Native.Nat.{ℕ, suc, _+_, _-_, _<_}
 use native.Mathlib.Omega.{arith}
-use lib.Dec.{eqb, ltb}
+use lib.Dec.{eqb}
 use lib.ListN.{length, getD, take, drop}
 use lib.Seq.{drop-cons}
-use Rattle.std.proofs.shelf.Tests.{lt-ltb, le-ltb, eq-eqb, ne-eqb, cases-eq, cases-lt, cases-bool, false≢true}
+use Rattle.std.proofs.shelf.Tests.{lt-ltb, eq-eqb, ne-eqb, cases-eq, cases-lt}
 use Rattle.std.proofs.shelf.Lists.{take-append-drop}
 use Rattle.std.proofs.shelf.Edits.{length-removed, getD-removed-below, getD-removed-above}
 use Rattle.std.specs.shelf.Lists.{inserted, removed}
@@ -48,26 +48,6 @@ has-removed l i r q asc lt e =
     (λ ne. rw (ne-eqb q r ne) (has-append (take i l) (drop (suc i) l) q ∙ sym (
     ap (λ m. has m q) (parts l i lt) ∙ has-append (take i l) (getD l i 0 ∷ drop (suc i) l) q ∙ rw (ne-eqb (getD l i 0) q (λ h. ne (sym h ∙ e))) refl)))
     (cases-eq q r)
-
-pub under-append : (xs ys : List ℕ) (n : ℕ) → under (xs ++ ys) n ≡ under xs n + under ys n
-under-append [] ys n = omega arith
-under-append (x ∷ xs) ys n = let ih = under-append xs ys n in omega arith
-
-pub under-inserted : (l : List ℕ) (i r n : ℕ) → r < n → under (inserted l i r) n ≡ under l n + 1
-under-inserted l i r n lt =
-    let a = under-append (take i l) (r ∷ drop i l) n in
-    let b = under-append (take i l) (drop i l) n in
-    let w : under (take i l ++ drop i l) n ≡ under l n = ap (λ m. under m n) (take-append-drop i l) in
-    let o : under (r ∷ drop i l) n ≡ 1 + under (drop i l) n = rw (lt-ltb r n lt) refl in
-    omega arith
-
-pub under-removed : (l : List ℕ) (i n : ℕ) → i < length l → getD l i 0 < n → under (removed l i) n ≡ under l n - 1
-under-removed l i n il lt =
-    let a = under-append (take i l) (drop (suc i) l) n in
-    let b = under-append (take i l) (getD l i 0 ∷ drop (suc i) l) n in
-    let w : under l n ≡ under (take i l ++ (getD l i 0 ∷ drop (suc i) l)) n = ap (λ m. under m n) (parts l i il) in
-    let o : under (getD l i 0 ∷ drop (suc i) l) n ≡ 1 + under (drop (suc i) l) n = rw (lt-ltb (getD l i 0) n lt) refl in
-    omega arith
 
 -- where each number is below n, as many are below it as there are
 pub under-all : (l : List ℕ) (n : ℕ) → Within l n → under l n ≡ length l

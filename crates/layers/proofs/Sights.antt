@@ -1,19 +1,18 @@
 -- What is in sight once rows are hidden: how many rows, which row at a place, the place of a key, the order.
 use mathlib.Core.Path.{_≡_, refl, sym, ap, subst, _∙_}
-use mathlib.Core.List.{List, [], _∷_, _++_}
-use mathlib.Core.Bool.{Bool, true, false, not, cond, _||_}
-use mathlib.Core.Logic.{_⊎_, inl, inr, ⊎-elim}
+use mathlib.Core.List.{List, [], _∷_}
+use mathlib.Core.Bool.{Bool, true, false, not, cond}
+use mathlib.Core.Logic.{_⊎_, ⊎-elim}
 use Prim.Native.Nat.{ℕ, zero, suc, _+_, _-_, _<_, _≤_}
 use native.Mathlib.Omega.{arith}
-use native.Mathlib.Numerals.{add-one, one-add}
-use native.Mathlib.Nat.{zero-add, add-zero}
-use lib.Dec.{eqb, ltb}
-use lib.ListN.{length, getD, take, drop}
-use Rattle.std.proofs.shelf.Tests.{lt-ltb, le-ltb, eq-eqb, ne-eqb, cases-order, cases-eq, cases-lt, cases-bool, false≢true, not-false, cond-true, cond-false}
-use Rattle.std.proofs.shelf.Lists.{getD-take, length-take-le}
+use native.Mathlib.Numerals.{add-one}
+use native.Mathlib.Nat.{add-zero}
+use lib.ListN.{length, getD}
+use Rattle.std.proofs.shelf.Tests.{lt-ltb, le-ltb, eq-eqb, ne-eqb, cases-order, cases-lt, cases-bool, not-false}
 use Rattle.std.proofs.shelf.Elements.{all-weaker, all-getD}
 use Rattle.std.specs.shelf.Lists.{All}
 use Rattle.keys.specs.Order.{Lawful}
+use Rattle.keys.proofs.Orders.{laws}
 use Rattle.indexes.specs.Meaning.{count, passed, place-of, Ordered, Meaning, Meant}
 use Rattle.indexes.specs.declared.index.Side.{Side}
 use Rattle.indexes.specs.declared.index.Side.the-variants.{At, After}
@@ -141,21 +140,13 @@ Sorted before [] = Unit {0}
 Sorted before (x ∷ xs) = All (λ y. before y x ≡ false) xs × Sorted before xs
 
 module _ {K : Type 0} (before : K → K → Bool) (lawful : Lawful before) where
-  -- not before is carried on
-  pub carried : (a b c : K) → before b a ≡ false → before c b ≡ false → before c a ≡ false
-  carried a b c ba cb =
-      ⊎-elim
-      (λ t. absurd (⊎-elim (λ h. false≢true (sym cb ∙ h)) (λ h. false≢true (sym ba ∙ h)) (lawful .splits c a b t)))
-      (λ f. f)
-      (cases-bool (before c a))
-
   pub sorted : (xs : List K) → Ordered before xs → Sorted before xs
   sorted [] o = tt
   sorted (x ∷ []) o = (tt, tt)
   sorted (x ∷ (y ∷ ys)) o =
       let rest : Sorted before (y ∷ ys) = sorted (y ∷ ys) (λ i d l. let e : suc i + 1 ≡ suc (i + 1) = omega arith in subst (λ n. before (getD (x ∷ (y ∷ ys)) n d) (getD (y ∷ ys) i d) ≡ false) e (o (suc i) d (omega arith))) in
       let first : before y x ≡ false = o 0 x (omega arith) in
-      ((first, all-weaker (λ z. before z y ≡ false) (λ z. before z x ≡ false) (λ z h. carried x y z first h) ys (rest .0)), rest)
+      ((first, all-weaker (λ z. before z y ≡ false) (λ z. before z x ≡ false) (λ z h. laws lawful .chain z y x h first) ys (rest .0)), rest)
 
   pub ordered : (xs : List K) → Sorted before xs → Ordered before xs
   ordered xs s i d l = rw add-one (next xs s i d (omega arith))
@@ -183,10 +174,10 @@ module _ {K : Type 0} (before : K → K → Bool) (lawful : Lawful before) where
   none-passed p [] a = refl
   none-passed p (x ∷ xs) a = rw (a .0, none-passed p xs (a .1)) refl
 
-  pub later : (key : K) (side : Side) (x y : K) → before y x ≡ false → passed before key side x ≡ false → passed before key side y ≡ false
-  later key At x y yx px = carried key x y px yx
-  later key After x y yx px =
-      ap not (⊎-elim (λ h. h) (λ h. absurd (false≢true (sym yx ∙ h))) (lawful .splits key x y (not-false (before key x) px)))
+  -- a row behind one that is not passed is not passed
+  later : (key : K) (side : Side) (x y : K) → before y x ≡ false → passed before key side x ≡ false → passed before key side y ≡ false
+  later key At x y yx px = laws lawful .chain y x key yx px
+  later key After x y yx px = ap not (laws lawful .before-later key x y (not-false (before key x) px) yx)
 
   pub front : (key : K) (side : Side) (xs : List K) → Sorted before xs → Front (passed before key side) xs
   front key side [] s = tt

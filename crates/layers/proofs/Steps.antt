@@ -1,24 +1,23 @@
 -- One call on a strike list against the reference.
 use mathlib.Core.Path.{_≡_, refl, sym, ap, subst, _∙_, fun-ext}
-use mathlib.Core.List.{List, [], _∷_}
+use mathlib.Core.List.{List}
 use mathlib.Core.Bool.{Bool, true, false, cond}
-use mathlib.Core.Logic.{_⊎_, inl, inr, ⊎-elim}
-use Prim.Native.Nat.{ℕ, suc, _+_, _-_, _<_, _≤_}
+use mathlib.Core.Logic.{_⊎_, ⊎-elim}
+use Prim.Native.Nat.{ℕ, _-_, _<_}
 use native.Mathlib.Omega.{arith}
-use lib.Dec.{eqb, ltb, leb}
-use lib.ListN.{length, getD, take}
+use lib.Dec.{ltb, leb}
+use lib.ListN.{length}
 use Rattle.std.proofs.shelf.Tests.{cases-bool, cases-eq, eq-eqb, ne-eqb, ltb-true, false≢true}
-use Rattle.std.specs.shelf.Lists.{inserted, removed}
 use Rattle.std.specs.declared.result.Result.{Result}
 use Rattle.std.specs.declared.result.Result.the-variants.{Ok, Err}
 use Rattle.indexes.specs.Meaning.{Meaning}
 use Rattle.indexes.specs.declared.decline.Decline.{Decline}
-use Rattle.indexes.specs.declared.decline.Decline.the-variants.{NoSuchRow, AlreadySo, ListFull}
+use Rattle.indexes.specs.declared.decline.Decline.the-variants.{NoSuchRow, AlreadySo}
 use Rattle.layers.specs.declared.calls.Call.{Call}
 use Rattle.layers.specs.declared.calls.Call.the-variants as call
 use Rattle.layers.specs.declared.calls.Answer.{Answer}
 use Rattle.layers.specs.declared.calls.Answer.the-variants as answer
-use Rattle.layers.specs.Table.{Ascending, has, under, Within, insert-answer, remove-answer, strike-answer, restore-answer, with-number, without-number}
+use Rattle.layers.specs.Table.{Ascending, has, under, Within, number-answer, strike-answer, restore-answer, with-number, without-number}
 use Rattle.layers.specs.Sight.{out-below}
 use Rattle.layers.specs.declared.strike_list.StrikeList.{StrikeList}
 use Rattle.layers.specs.Reference.{reply, set-after, fed, accepted, as-answer, counted, Step}
@@ -28,6 +27,11 @@ use Rattle.layers.proofs.Members.{has-inserted, has-removed, under-all}
 
 err-ok : (d : Decline) (u : Unit {0}) → _≡_ {A = Result (Unit {0}) Decline} (Ok u) (Err d) → ⊥
 err-ok d u e = let z : _≡_ {A = ℕ} 0 1 = cc in omega arith
+
+-- a row number that is answered is inside
+pub inside : (n row : ℕ) (u : Unit {0}) → Ok u ≡ number-answer n row → ltb row n ≡ true
+inside n row u e =
+    ⊎-elim (λ t. t) (λ (f : ltb row n ≡ false). absurd (err-ok NoSuchRow u (e ∙ rw f refl))) (cases-bool (ltb row n))
 
 -- what an accepted call shows of its row
 pub record Accepts (n : ℕ) (l : List ℕ) (row : ℕ) (there : Bool) : Type 0 where

@@ -2,10 +2,12 @@
 use mathlib.Core.Path.{_≡_}
 use mathlib.Core.List.{List, [], _∷_, map}
 use mathlib.Core.Bool.{Bool, true, false, _||_, cond}
-use Prim.Native.Nat.{ℕ, _+_, _<_, _≤_}
+use Prim.Native.Nat.{ℕ, _+_, _<_}
 use lib.Dec.{eqb, ltb, leb}
 use lib.ListN.{length, getD}
 use Rattle.std.specs.shelf.Lists.{inserted, removed}
+use Rattle.std.specs.declared.option.Option.{Option}
+use Rattle.std.specs.declared.option.Option.the-variants.{Some, None}
 use Rattle.std.specs.declared.result.Result.{Result}
 use Rattle.std.specs.declared.result.Result.the-variants.{Ok, Err}
 use Rattle.indexes.specs.declared.decline.Decline.{Decline}
@@ -34,6 +36,10 @@ abbrev pub under : List ℕ → ℕ → ℕ
 under [] r = 0
 under (x ∷ xs) r = cond (ltb x r) 1 0 + under xs r
 
+-- where a number of the list stands: behind those below it
+abbrev pub position-of : List ℕ → ℕ → Option ℕ
+position-of l row = cond (has l row) (Some (under l row)) None
+
 -- each number of the list is below n
 abbrev pub Within : List ℕ → ℕ → Type 0
 Within l n = (r : ℕ) → has l r ≡ true → r < n
@@ -53,6 +59,10 @@ with-number (Err d) l row = l
 abbrev pub without-number : Result Unit Decline → List ℕ → ℕ → List ℕ
 without-number (Ok u) l row = removed l (under l row)
 without-number (Err d) l row = l
+
+-- the answer of a row number above n rows
+abbrev pub number-answer : ℕ → ℕ → Result Unit Decline
+number-answer n row = cond (ltb row n) (Ok tt) (Err NoSuchRow)
 
 -- strike and restore above n rows
 abbrev pub strike-answer : ℕ → List ℕ → ℕ → Result Unit Decline

@@ -10,7 +10,7 @@ use Rattle.layers.specs.Sight.{hidden}
 
 -- the numbers in a table
 abbrev pub numbers : StruckRows → List ℕ
-numbers t = take (t .len) (listed (t .entries))
+numbers t = listed (take (t .len) (t .entries))
 
 -- the numbers of the rows that a strike list has out of sight
 abbrev pub out-of : {K I : Type 0} → StrikeList K I → List ℕ

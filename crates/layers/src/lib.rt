@@ -19,4 +19,3 @@ pub use calls::Call;
 pub use strike_list::StrikeList;
 pub use strike_list::StrikeListAsIndex;
 pub use table::StruckRow;
-pub use table::StruckRows;

@@ -1,7 +1,7 @@
 // A strike list above an index: rows of that index are put out of sight and back.
 ghost use mathlib.Core.Path.{_≡_};
 ghost use mathlib.Core.List.{[]};
-ghost use Rattle.layers.specs.Table.{listed, strike-answer, restore-answer, with-number, without-number};
+ghost use Rattle.layers.specs.Table.{listed, number-answer, strike-answer, restore-answer, with-number, without-number};
 ghost use Rattle.layers.specs.Views.{out-of, list-means, rows-below, Kept};
 use crate::table::StruckRow;
 use crate::table::StruckRows;
@@ -49,6 +49,18 @@ impl<K: Key, I: Index<K>> StrikeList<K, I> {
         self.struck.as_slice()
     }
 
+    // Does the index below have a row of this number?
+    fn below_has(&self, row: u32) -> Result<(), Decline>
+        requires { ⌜ Kept (I·Index .opened) (I·Index .means) (now self) ⌝ }
+        ensures { λ r. ⌜ r ≡ number-answer (rows-below (I·Index .means) (now (self .entry))) row ⌝ }
+    {
+        if (row as usize) < self.below.len() {
+            Ok(())
+        } else {
+            Err(Decline::NoSuchRow)
+        }
+    }
+
     // Puts a row of the index below out of sight.
     pub fn strike(&mut self, row: u32) -> Result<(), Decline>
         requires { ⌜ Kept (I·Index .opened) (I·Index .means) (now self) ⌝ }
@@ -57,9 +69,7 @@ impl<K: Key, I: Index<K>> StrikeList<K, I> {
         ensures below { λ _. ⌜ now (self .exit) .below ≡ now (self .entry) .below ⌝ }
         ensures opened { λ _. ⌜ Kept (I·Index .opened) (I·Index .means) (now (self .exit)) ⌝ }
     {
-        if row as usize >= self.below.len() {
-            return Err(Decline::NoSuchRow);
-        }
+        self.below_has(row)?;
         self.struck.insert(row)
     }
 
@@ -71,9 +81,7 @@ impl<K: Key, I: Index<K>> StrikeList<K, I> {
         ensures below { λ _. ⌜ now (self .exit) .below ≡ now (self .entry) .below ⌝ }
         ensures opened { λ _. ⌜ Kept (I·Index .opened) (I·Index .means) (now (self .exit)) ⌝ }
     {
-        if row as usize >= self.below.len() {
-            return Err(Decline::NoSuchRow);
-        }
+        self.below_has(row)?;
         self.struck.remove(row)
     }
 }

@@ -14,10 +14,10 @@ pub struct StruckRow {
 
 // At most 64 struck rows, their numbers ascending, each once. The entries from `len` on are free.
 #[derive(Drop)]
-pub struct StruckRows {
+pub(crate) struct StruckRows {
     entries: [StruckRow; 64],
     len: usize,
     ghost few: { len ≤ 64 },
     ghost whole: { length entries ≡ 64 },
-    ghost rising: { Ascending (take len (listed entries)) },
+    ghost rising: { Ascending (listed (take len entries)) },
 }

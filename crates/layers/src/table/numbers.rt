@@ -3,7 +3,7 @@ ghost use mathlib.Core.Path.{_≡_};
 ghost use mathlib.Core.Bool.{false};
 ghost use mathlib.Core.List.{[]};
 ghost use Prim.Native.Nat.{_+_, _^_, _<_, _≤_};
-ghost use Rattle.layers.specs.Table.{listed, has, under, insert-answer, remove-answer, with-number, without-number};
+ghost use Rattle.layers.specs.Table.{listed, has, under, position-of, insert-answer, remove-answer, with-number, without-number};
 ghost use Rattle.layers.specs.Views.{numbers};
 use super::StruckRow;
 use super::StruckRows;
@@ -13,7 +13,7 @@ use indexes::Decline;
 const MAX_STRUCK: usize = 64;
 
 impl StruckRows {
-    pub fn new() -> StruckRows
+    pub(crate) fn new() -> StruckRows
         ensures { λ r. ⌜ numbers r ≡ [] ⌝ }
     {
         StruckRows {
@@ -23,14 +23,14 @@ impl StruckRows {
     }
 
     // The rows struck now.
-    pub fn as_slice(&self) -> &[StruckRow]
+    pub(crate) fn as_slice(&self) -> &[StruckRow]
         ensures { λ r. ⌜ listed (now r) ≡ numbers (now (self .entry)) ⌝ }
     {
         &self.entries[0..self.len]
     }
 
     // How many of the numbers are below `row`: where it stands, or where it would go.
-    pub fn rank(&self, row: u32) -> usize
+    pub(crate) fn rank(&self, row: u32) -> usize
         ensures count { λ r. ⌜ r ≡ under (numbers (now (self .entry))) row ⌝ }
         ensures within { λ r. ⌜ r ≤ now (self .entry) .len ⌝ }
     {
@@ -41,15 +41,20 @@ impl StruckRows {
         at
     }
 
-    pub fn contains(&self, row: u32) -> bool
-        ensures { λ r. ⌜ r ≡ has (numbers (now (self .entry))) row ⌝ }
+    // Where the row stands, if it is struck.
+    pub(crate) fn position(&self, row: u32) -> Option<usize>
+        ensures { λ r. ⌜ r ≡ position-of (numbers (now (self .entry))) row ⌝ }
     {
         let at = self.rank(row);
-        at < self.len && self.entries[at].number == row
+        if at < self.len && self.entries[at].number == row {
+            Some(at)
+        } else {
+            None
+        }
     }
 
     // The number of the row that has `place` rows in sight below it and is in sight itself.
-    pub fn unstruck(&self, place: usize) -> usize
+    pub(crate) fn unstruck(&self, place: usize) -> usize
         requires { ⌜ place < 2 ^ 32 ⌝ }
         ensures rank { λ r. ⌜ r ≡ place + under (numbers (now (self .entry))) r ⌝ }
         ensures free { λ r. ⌜ has (numbers (now (self .entry))) r ≡ false ⌝ }
@@ -61,11 +66,11 @@ impl StruckRows {
         place + at
     }
 
-    pub fn insert(&mut self, row: u32) -> Result<(), Decline>
+    pub(crate) fn insert(&mut self, row: u32) -> Result<(), Decline>
         ensures answers { λ r. ⌜ r ≡ insert-answer (numbers (now (self .entry))) row ⌝ }
         ensures holds { λ r. ⌜ numbers (now (self .exit)) ≡ with-number r (numbers (now (self .entry))) row ⌝ }
     {
-        if self.contains(row) {
+        if self.position(row).is_some() {
             return Err(Decline::AlreadySo);
         }
         if self.len >= MAX_STRUCK {
@@ -78,14 +83,11 @@ impl StruckRows {
         Ok(())
     }
 
-    pub fn remove(&mut self, row: u32) -> Result<(), Decline>
+    pub(crate) fn remove(&mut self, row: u32) -> Result<(), Decline>
         ensures answers { λ r. ⌜ r ≡ remove-answer (numbers (now (self .entry))) row ⌝ }
         ensures holds { λ r. ⌜ numbers (now (self .exit)) ≡ without-number r (numbers (now (self .entry))) row ⌝ }
     {
-        if !self.contains(row) {
-            return Err(Decline::AlreadySo);
-        }
-        let at = self.rank(row);
+        let at = self.position(row).ok_or(Decline::AlreadySo)?;
         self.entries.copy_within(at + 1..self.len, at);
         self.len -= 1;
         Ok(())

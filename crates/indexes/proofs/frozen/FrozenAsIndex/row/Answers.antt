@@ -1,17 +1,14 @@
-use mathlib.Core.Path.{sym}
+-- Past the end the held key stays.
 use borrow.Author.Needs.{needs}
-use Rattle.std.proofs.shelf.Lists.{getD-past, getD-default}
-use Rattle.std.proofs.shelf.Tests.{cond-false, le-ltb}
-use Rattle.indexes.proofs.Models.{column-meant}
+use mathlib.Core.Path.{sym}
+use Prim.Native.Nat.{_≤_}
+use lib.ListN.{length}
+use Rattle.std.proofs.shelf.Lists.{getD-past}
+use Rattle.indexes.proofs.Columns.{row-past}
 use Rattle.indexes.proofs.frozen.FrozenAsIndex.row.Needs as need
 
-pub returns-then-place-self : need.returns-then-place-self
-returns-then-place-self g c = record { answers = search needs; puts = getD-default _ _ _ _ (c .if-place-self .taken); meant = column-meant _ _ (c .pre) }
-
-pub returns-else-place-self : need.returns-else-place-self
-returns-else-place-self g c =
-    record {
-      answers = sym (cond-false _ _ _ (le-ltb _ _ (c .if-place-self .left)));
-      puts = sym (getD-past _ _ _ (c .if-place-self .left));
-      meant = column-meant _ _ (c .pre);
-    }
+pub returns-in-rest : need.returns-in-rest
+returns-in-rest g c =
+    let rows = c .args .self .now .rows .now in
+    let past : length rows ≤ c .args .place = search needs in
+    record { answers = sym (row-past rows (c .args .place) past); puts = sym (getD-past rows (c .args .place) _ past); meant = c .pre }

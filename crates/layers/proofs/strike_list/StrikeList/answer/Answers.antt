@@ -1,4 +1,4 @@
-use mathlib.Core.Path.{_≡_, refl, sym, ap, _∙_}
+use mathlib.Core.Path.{refl, ap, _∙_}
 use Rattle.layers.specs.Table.{has}
 use Rattle.layers.specs.Views.{numbers, out-of}
 use Rattle.layers.specs.declared.calls.Call.the-variants as call

@@ -1,13 +1,13 @@
-use mathlib.Core.Path.{_≡_, sym, _∙_, ap}
+use mathlib.Core.Path.{sym, _∙_}
 use Prim.Native.Nat.{_≤_, _<_}
 use lib.ListN.{length}
 use native.Mathlib.Omega.{arith}
 use Rattle.std.proofs.shelf.Tests.{le-ltb, lt-ltb}
 use Rattle.std.proofs.shelf.Lists.{getD-past}
-use Rattle.layers.specs.Table.{under, has}
+use Rattle.layers.specs.Table.{has}
 use Rattle.layers.specs.Views.{numbers}
 use Rattle.layers.specs.Sight.{sighted}
-use Rattle.layers.proofs.Sights.{row-sighted, row-within, len-sighted}
+use Rattle.layers.proofs.Sights.{row-sighted, row-within}
 use Rattle.layers.proofs.strike_list.StrikeListAsIndex.row.Needs as need
 
 pub returns-then-place-len : need.returns-then-place-len

@@ -1,6 +1,4 @@
 use borrow.Author.Count.{below-more}
-use Prim.Native.Nat.{_≤_}
-use lib.ListN.{getD}
 use native.Mathlib.Omega.{arith}
 use Rattle.layers.specs.Views.{numbers}
 use Rattle.layers.proofs.Ascending.{rank-is, above-from}

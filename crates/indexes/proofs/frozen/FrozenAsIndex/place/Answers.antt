@@ -1,6 +1,0 @@
-use borrow.Author.Needs.{needs}
-use Rattle.indexes.proofs.Models.{column-meant}
-use Rattle.indexes.proofs.frozen.FrozenAsIndex.place.Needs as need
-
-pub returns : need.returns
-returns g c = record { place = search needs; comparisons = search needs; meant = column-meant _ _ (c .pre) }
