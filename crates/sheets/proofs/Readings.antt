@@ -2,25 +2,27 @@
 use mathlib.Core.Path.{_≡_, refl, sym, ap, subst, _∙_}
 use mathlib.Core.Bool.{true, false, cond}
 use mathlib.Core.List.{List, [], _∷_}
-use Prim.Native.Nat.{ℕ, suc, _≤_}
+use Prim.Native.Nat.{ℕ, suc, _≤_, _<_}
 use native.Mathlib.Omega.{arith}
 use lib.ListN.{length, getD}
 use mir.Val.{Fits}
 use mir.Syntax.{w8}
 use Rattle.std.specs.Options.{isSome, mapped}
-use Rattle.std.proofs.shelf.Tests.{le-leb}
-use Rattle.std.proofs.shelf.Ways.{tells}
+use Rattle.std.proofs.shelf.Tests.{le-leb, lt-leb}
 use Rattle.std.specs.declared.option.Option.{Option}
 use Rattle.std.specs.declared.option.Option.the-variants.{Some, None}
+use Rattle.sheets.specs.declared.field.Field.{Field}
+use Rattle.sheets.specs.declared.field.Field.the-variants as field
+use Rattle.sheets.specs.declared.field.Part.{Part}
 use Rattle.sheets.specs.declared.field.Kind.{Kind}
 use Rattle.sheets.specs.declared.field.Kind.the-variants.{Directory, Accounts, Labels}
 use Rattle.sheets.specs.declared.reader.Stage.the-variants as stage
 use Rattle.sheets.specs.declared.sheet.Sheet.{Sheet}
-use Rattle.sheets.specs.Fields.{Piece, piece}
+use Rattle.sheets.specs.Fields.{Piece, piece, told}
 use Rattle.sheets.specs.Grammar.{is, when, bind, next, State, state, Step, opened, step, ended, left, fields, Said, said, sheet, column-of, col, viewed}
 use Rattle.sheets.specs.Written.{Chooses, by-full, by-level, by-none, Holds, accounts, labels, listed, Written-as}
 use Rattle.sheets.proofs.Left.{left-step, left-stop}
-use Rattle.sheets.proofs.Options.{some-same}
+use Rattle.sheets.proofs.Options.{none-some, some-same, is-none, is-some}
 use Rattle.sheets.proofs.Spelled.{Bytes, spells-read, spelled}
 use Rattle.sheets.proofs.Stages.{chooses, holds}
 use Rattle.sheets.proofs.Steps.{taken}
@@ -56,18 +58,21 @@ holds-column : (w : ℕ) (k : Kind) (v : List ℕ) (f : Piece) → Holds w k v �
 holds-column _ _ _ f (accounts n e) = refl
 holds-column _ _ _ f (labels n e) = refl
 
+told-directory : (f : Field) → told f .kind ≡ Directory → (p : Part) × (f ≡ field.Directory p)
+told-directory (field.Directory p) e = (p, refl)
+told-directory (field.Accounts p) e = let z : _≡_ {A = ℕ} 0 1 = cc in absurd (omega arith)
+told-directory (field.Labels p) e = let z : _≡_ {A = ℕ} 0 1 = cc in absurd (omega arith)
+told-directory (field.Strike p) e = let z : _≡_ {A = ℕ} 0 1 = cc in absurd (omega arith)
+told-directory (field.Restore p) e = let z : _≡_ {A = ℕ} 0 1 = cc in absurd (omega arith)
+told-directory (field.Place p) e = let z : _≡_ {A = ℕ} 0 1 = cc in absurd (omega arith)
+
 -- two fields before the rest
 before : (d c : Piece) (o : Option (List Piece)) → bind (bind o (λ fs. Some (c ∷ fs))) (λ fs. Some (d ∷ fs)) ≡ bind o (λ fs. Some (d ∷ c ∷ fs))
 before d c None = refl
 before d c (Some fs) = refl
 
-is-none : {A : Type 0} (o : Option A) → false ≡ isSome o → o ≡ None
-is-none None e = refl
-is-none (Some x) e = absurd (grind (arith, tells))
-
-is-some : {A : Type 0} (o : Option A) → true ≡ isSome o → (x : A) × (o ≡ Some x)
-is-some None e = absurd (grind (arith, tells))
-is-some (Some x) e = (x, refl)
+pub too-long : (bs : List ℕ) → 65536 < length bs → fields bs ≡ None
+too-long bs h = ap (λ b. cond b (left (opened bs)) None) (lt-leb (length bs) 65536 h)
 
 -- a reader at the start of bs
 module _ (bs : List ℕ) (small : length bs ≤ 65536) (q : State) (start : q ≡ opened bs) where
@@ -87,8 +92,10 @@ module _ (bs : List ℕ) (small : length bs ≤ 65536) (q : State) (start : q �
         let g = taken (q .stage) (q .whole) (q .rest) t (sym first) in
         chooses _ _ _ (ap (λ s. next s (t .read .kind) (t .read .value)) (sym starts) ∙ g .allowed)
 
-    pub directs : t .read .kind ≡ Directory
-    directs = chooses-directory _ _ (chosen .0)
+    pub no-directory : (f : Field) → t .read ≡ told f → ((p : Part) → f ≡ field.Directory p → ⊥) → fields bs ≡ None
+    no-directory f e h =
+        let d = told-directory f (ap (λ (g : Piece). g .kind) (sym e) ∙ chooses-directory _ _ (chosen .0)) in
+        absurd (h (d .0) (d .1))
 
     fields-then : fields bs ≡ bind (left (t .then)) (λ fs. Some (t .read ∷ fs))
     fields-then = fields-left ∙ left-step q t first
@@ -98,11 +105,14 @@ module _ (bs : List ℕ) (small : length bs ≤ 65536) (q : State) (start : q �
 
     -- the second field is read
     module _ (u : Step) (second : Some u ≡ step (t .then)) where
-      pub columns : column-of (u .read) ≡ Some (u .read)
+      columns : column-of (u .read) ≡ Some (u .read)
       columns =
           let g = taken (t .then .stage) (t .then .whole) (t .then .rest) u (sym second) in
           let h = holds _ _ _ (ap (λ s. next s (u .read .kind) (u .read .value)) (chosen .1) ∙ g .allowed) in
           holds-column (h .0) (u .read .kind) (u .read .value) (u .read) (h .1)
+
+      pub no-column : None ≡ column-of (u .read) → fields bs ≡ None
+      no-column e = none-some (u .read) (e ∙ columns)
 
       fields-last : fields bs ≡ bind (left (u .then)) (λ fs. Some (t .read ∷ u .read ∷ fs))
       fields-last =

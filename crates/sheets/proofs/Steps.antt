@@ -1,17 +1,20 @@
 -- One step of the grammar: from what the reader saw to the step, and from the step to what it took. Assumes nothing.
 use mathlib.Core.Path.{_≡_, refl, sym, ap, subst, _∙_}
+use mathlib.Core.Bool.{false}
 use mathlib.Core.List.{List, [], _∷_}
 use Prim.Native.Nat.{ℕ, _+_, _-_, _*_, _≤_, _<_}
 use native.Mathlib.Omega.{arith}
 use lib.Dec.{leb}
 use lib.ListN.{length, getD, take, drop, length-drop}
+use Rattle.std.specs.Options.{isSome, mapped, valueOr}
 use Rattle.std.proofs.shelf.Tests.{le-leb, leb-true}
+use Rattle.std.specs.declared.option.Option.{Option}
 use Rattle.std.specs.declared.option.Option.the-variants.{Some, None}
 use Rattle.sheets.specs.declared.field.Kind.{Kind}
 use Rattle.sheets.specs.declared.reader.Stage.{Stage}
 use Rattle.sheets.specs.Fields.{kind, Piece}
-use Rattle.sheets.specs.Grammar.{next, step-at, value-step, bind, Step}
-use Rattle.sheets.proofs.Options.{none-some, some-same, bind-parts, when-parts}
+use Rattle.sheets.specs.Grammar.{next, moved, step-at, step, value-step, bind, Step, State, front, onward}
+use Rattle.sheets.proofs.Options.{none-some, some-same, bind-parts, when-parts, is-none}
 
 stepped : (s : Stage) (z : ℕ) (xs : List ℕ) → 3 ≤ length xs → step-at s z xs ≡ value-step s z (getD xs 0 0) (getD xs 1 0 * 256 + getD xs 2 0) (drop 3 xs)
 stepped s z [] h = absurd (omega arith)
@@ -28,12 +31,12 @@ pub record Front (xs : List ℕ) (k : Kind) (n : ℕ) (v rest : List ℕ) : Type
   pub value : v ≡ take n (drop 3 xs)
   pub back : rest ≡ drop n (drop 3 xs)
 
-module _ (s : Stage) (z : ℕ) {xs : List ℕ} {k : Kind} {n : ℕ} {v rest : List ℕ} (front : Front xs k n v rest) where
+module _ (s : Stage) (z : ℕ) {xs : List ℕ} {k : Kind} {n : ℕ} {v rest : List ℕ} (sees : Front xs k n v rest) where
   stepping : step-at s z xs ≡ bind (next s k v) (λ s′. Some (record {
     read = record { kind = k; place = z - length (drop 3 xs); value = v };
     then = record { stage = s′; whole = z; rest = rest };
   }))
-  stepping = stepped s z xs (front .long) ∙ rw (← front .size, le-leb n _ (front .fits), front .named, ← front .value, ← front .back)
+  stepping = stepped s z xs (sees .long) ∙ rw (← sees .size, le-leb n _ (sees .fits), sees .named, ← sees .value, ← sees .back)
 
   -- what the reader hands on where the field is allowed, r at a place that it computed from z′
   pub admitted : (s′ : Stage) (z′ p : ℕ) (r : Piece) → Some s′ ≡ next s k v → z′ ≡ z → r ≡ record { kind = k; place = p; value = v } → p ≡ z - length (drop 3 xs) → Some (record {
@@ -45,8 +48,8 @@ module _ (s : Stage) (z : ℕ) {xs : List ℕ} {k : Kind} {n : ℕ} {v rest : Li
       ∙ (λ i. Some (record { read = record { kind = k; place = at i; value = v }; then = record { stage = s′; whole = z; rest = rest } }))
       ∙ sym (stepping ∙ rw (← e))
 
-  pub refused : None ≡ next s k v → None ≡ step-at s z xs
-  refused e = sym (stepping ∙ rw (← e))
+  pub refused : false ≡ isSome (next s k v) → None ≡ step-at s z xs
+  refused e = sym (stepping ∙ rw (is-none (next s k v) e))
 
 -- a step took a head of three bytes and a value off the front
 pub record Taken (s : Stage) (z : ℕ) (bs : List ℕ) (t : Step) : Type 0 where
@@ -93,3 +96,25 @@ shorter {s} {z} {bs} {t} g =
     let a : length bs ≡ 3 + length (g .after) = ap length (g .bytes) ∙ omega arith in
     let b : length (t .then .rest) ≡ length (g .after) - (g .hi * 256 + g .lo) = ap length (g .rest) ∙ length-drop _ (g .after) in
     omega arith
+
+-- a reader that a field did not move is where it was
+pub still : (q q′ : State) (k : Kind) (v : List ℕ) → None ≡ step q → false ≡ isSome (next (q .stage) k v) → q′ .stage ≡ moved (q .stage) k v → q′ .whole ≡ q .whole → q′ .rest ≡ q .rest → q′ ≡ onward q
+still q q′ k v e h s z r =
+    let same = s ∙ ap (λ o. valueOr o (q .stage)) (is-none (next (q .stage) k v) h) in
+    (λ i. record { stage = same i; whole = z i; rest = r i }) ∙ ap (λ o. valueOr (mapped (λ t. t .then) o) q) e
+
+went-by : (o : Option Step) (q : State) (f : Piece) (q′ : State) → Some f ≡ mapped (λ t. t .read) o → q′ ≡ valueOr (mapped (λ t. t .then) o) q → Some (record { read = f; then = q′ }) ≡ o
+went-by None q f q′ e h = none-some f (sym e)
+went-by (Some t) q f q′ e h = let r = some-same f (t .read) e in (λ i. Some (record { read = r i; then = h i }))
+
+-- the reader gave a field and went on: a step
+pub went : (q : State) (f : Piece) (q′ : State) → Some f ≡ front q → q′ ≡ onward q → Some (record { read = f; then = q′ }) ≡ step q
+went q f q′ e h = went-by (step q) q f q′ e h
+
+stayed-by : (o : Option Step) → None ≡ mapped (λ t. t .read) o → None ≡ o
+stayed-by None e = refl
+stayed-by (Some t) e = none-some (t .read) e
+
+-- the reader gave none: no step
+pub stayed : (q : State) → None ≡ front q → None ≡ step q
+stayed q e = stayed-by (step q) e

@@ -4,9 +4,9 @@ use mathlib.Core.List.{List, [], _∷_}
 use Prim.Native.Nat.{ℕ, zero, suc, _+_, _-_, _*_}
 use lib.Dec.{eqb, leb}
 use lib.ListN.{length, take, drop}
+use Rattle.std.specs.Options.{mapped, valueOr}
 use Rattle.std.specs.declared.option.Option.{Option}
 use Rattle.std.specs.declared.option.Option.the-variants.{Some, None}
-use Rattle.sheets.specs.declared.field.Field.{Field}
 use Rattle.sheets.specs.declared.field.Kind.{Kind}
 use Rattle.sheets.specs.declared.field.Kind.the-variants.{Directory, Accounts, Labels, Strike, Restore, Place}
 use Rattle.sheets.specs.declared.reader.Reader.{Reader}
@@ -15,7 +15,7 @@ use Rattle.sheets.specs.declared.reader.Stage.the-variants as stage
 use Rattle.sheets.specs.declared.sheet.Column.{Column}
 use Rattle.sheets.specs.declared.sheet.Column.the-variants as column
 use Rattle.sheets.specs.declared.sheet.Sheet.{Sheet}
-use Rattle.sheets.specs.Fields.{letter, kind, choice, keys, row, sought, Piece, piece, told}
+use Rattle.sheets.specs.Fields.{letter, kind, choice, keys, row, sought, Piece, piece}
 
 abbrev pub when : {A : Type 0} → Bool → A → Option A
 when b a = cond b (Some a) None
@@ -40,9 +40,9 @@ next stage.Chosen k v =
 next stage.Accounts k v = call stage.Accounts 4 k v
 next stage.Labels k v = call stage.Labels 16 k v
 
--- what an admission says: the stage after it
-abbrev pub moved : Bool → Stage → Option Stage
-moved b s = when b s
+-- the stage after a field, or the same where it is not allowed
+abbrev pub moved : Stage → Kind → List ℕ → Stage
+moved s k v = valueOr (next s k v) s
 
 -- a sheet may end once its column is read
 abbrev pub ended : Stage → Option (List Piece)
@@ -89,10 +89,13 @@ step-at s z (t ∷ h ∷ l ∷ bs) = value-step s z t (h * 256 + l) bs
 abbrev pub step : State → Option Step
 step q = step-at (q .stage) (q .whole) (q .rest)
 
--- what a call of `field` gave
-abbrev pub gave : Option Field → State → Option Step
-gave None q = None
-gave (Some f) q = Some (record { read = told f; then = q })
+-- the field that comes next
+abbrev pub front : State → Option Piece
+front q = mapped (λ t. t .read) (step q)
+
+-- where the reader stands after it, or still where there is none
+abbrev pub onward : State → State
+onward q = valueOr (mapped (λ t. t .then) (step q)) q
 
 -- a field has three bytes at least, so as many fields as there are bytes are enough
 abbrev pub pieces : ℕ → Stage → ℕ → List ℕ → Option (List Piece)

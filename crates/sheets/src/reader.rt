@@ -2,8 +2,9 @@
 ghost use mathlib.Core.Path.{_≡_};
 ghost use lib.Dec.{eqb};
 ghost use lib.ListN.{length};
-ghost use Rattle.std.specs.Options.{isSome};
-ghost use Rattle.sheets.specs.Grammar.{next, moved, state, opened, step, gave, ended, left};
+ghost use Rattle.std.specs.Options.{isSome, mapped};
+ghost use Rattle.sheets.specs.Fields.{told};
+ghost use Rattle.sheets.specs.Grammar.{next, moved, state, opened, front, onward, ended, left};
 use crate::field::Field;
 use crate::field::Kind;
 use crate::field::Part;
@@ -40,7 +41,8 @@ impl<'a> Reader<'a> {
 
     // Moves to the stage that follows where a field of this kind and value is allowed now.
     fn admit(&mut self, kind: Kind, value: &[u8]) -> bool
-        ensures next { λ r. ⌜ moved r (now (self .exit) .stage) ≡ next (now (self .entry) .stage) kind (now (value .entry)) ⌝ }
+        ensures allowed { λ r. ⌜ r ≡ isSome (next (now (self .entry) .stage) kind (now (value .entry))) ⌝ }
+        ensures stage { λ _. ⌜ now (self .exit) .stage ≡ moved (now (self .entry) .stage) kind (now (value .entry)) ⌝ }
         ensures whole { λ _. ⌜ now (self .exit) .whole ≡ now (self .entry) .whole ⌝ }
         ensures rest { λ _. ⌜ now (self .exit) .rest ≡ now (self .entry) .rest ⌝ }
     {
@@ -64,9 +66,10 @@ impl<'a> Reader<'a> {
         }
     }
 
-    // The next field, if there is one that is allowed here.
+    // The next field, if there is one that is allowed here; else the reader stays where it is.
     pub fn field(&mut self) -> Option<Field<'a>>
-        ensures { λ r. ⌜ gave r (state (now (self .exit))) ≡ step (state (now (self .entry))) ⌝ }
+        ensures field { λ r. ⌜ mapped told r ≡ front (state (now (self .entry))) ⌝ }
+        ensures reader { λ _. ⌜ state (now (self .exit)) ≡ onward (state (now (self .entry))) ⌝ }
     {
         let [tag, hi, lo, after @ ..] = self.rest else {
             return None;
