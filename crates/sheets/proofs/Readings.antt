@@ -2,13 +2,13 @@
 use mathlib.Core.Path.{_≡_, refl, sym, ap, subst, _∙_}
 use mathlib.Core.Bool.{true, false, cond}
 use mathlib.Core.List.{List, [], _∷_}
-use Prim.Native.Nat.{ℕ, suc, _≤_, _<_}
+use Prim.Native.Nat.{ℕ, suc, _≤_}
 use native.Mathlib.Omega.{arith}
 use lib.ListN.{length, getD}
 use mir.Val.{Fits}
 use mir.Syntax.{w8}
 use Rattle.std.specs.Options.{isSome, mapped}
-use Rattle.std.proofs.shelf.Tests.{le-leb, lt-leb}
+use Rattle.std.proofs.shelf.Tests.{le-leb}
 use Rattle.std.specs.declared.option.Option.{Option}
 use Rattle.std.specs.declared.option.Option.the-variants.{Some, None}
 use Rattle.sheets.specs.declared.field.Field.{Field}
@@ -70,9 +70,6 @@ told-directory (field.Place p) e = let z : _≡_ {A = ℕ} 0 1 = cc in absurd (o
 before : (d c : Piece) (o : Option (List Piece)) → bind (bind o (λ fs. Some (c ∷ fs))) (λ fs. Some (d ∷ fs)) ≡ bind o (λ fs. Some (d ∷ c ∷ fs))
 before d c None = refl
 before d c (Some fs) = refl
-
-pub too-long : (bs : List ℕ) → 65536 < length bs → fields bs ≡ None
-too-long bs h = ap (λ b. cond b (left (opened bs)) None) (lt-leb (length bs) 65536 h)
 
 -- a reader at the start of bs
 module _ (bs : List ℕ) (small : length bs ≤ 65536) (q : State) (start : q ≡ opened bs) where

@@ -1,5 +1,6 @@
 // The reader of a sheet: its fields, one after the other.
 ghost use mathlib.Core.Path.{_≡_};
+ghost use Prim.Native.Nat.{_-_};
 ghost use lib.Dec.{eqb};
 ghost use lib.ListN.{length};
 ghost use Rattle.std.specs.Options.{isSome, mapped};
@@ -8,6 +9,7 @@ ghost use Rattle.sheets.specs.Grammar.{next, moved, state, opened, front, onwa
 use crate::field::Field;
 use crate::field::Kind;
 use crate::field::Part;
+use crate::value::big_endian;
 use crate::value::is_choice;
 use crate::value::is_sought;
 
@@ -66,6 +68,13 @@ impl<'a> Reader<'a> {
         }
     }
 
+    // The place of bytes that go on to the end of the sheet.
+    fn place(&self, after: &[u8]) -> usize
+        ensures { λ r. ⌜ r ≡ now (self .entry) .whole - length (now (after .entry)) ⌝ }
+    {
+        self.whole.saturating_sub(after.len())
+    }
+
     // The next field, if there is one that is allowed here; else the reader stays where it is.
     pub fn field(&mut self) -> Option<Field<'a>>
         ensures field { λ r. ⌜ mapped told r ≡ front (state (now (self .entry))) ⌝ }
@@ -74,7 +83,7 @@ impl<'a> Reader<'a> {
         let [tag, hi, lo, after @ ..] = self.rest else {
             return None;
         };
-        let size = usize::from(*hi) * 256 + usize::from(*lo);
+        let size = big_endian(*hi, *lo);
         if size > after.len() {
             return None;
         }
@@ -87,7 +96,7 @@ impl<'a> Reader<'a> {
         Some(Field::of(
             kind,
             Part {
-                place: self.whole.saturating_sub(after.len()),
+                place: self.place(after),
                 bytes: value,
             },
         ))

@@ -1,7 +1,15 @@
-// What the value of a directory and of a call for a place may be, and the number that four bytes are.
+// How long a value is, what that of a directory and of a call for a place may be, and the number that four bytes are.
 ghost use mathlib.Core.Path.{_≡_};
+ghost use Prim.Native.Nat.{_+_, _*_};
 ghost use Rattle.sheets.specs.Fields.{choice, sought};
 ghost use Rattle.sheets.specs.Said.{four-bytes};
+
+// The length of a value, in two bytes.
+pub(crate) fn big_endian(hi: u8, lo: u8) -> usize
+    ensures { λ r. ⌜ r ≡ hi * 256 + lo ⌝ }
+{
+    usize::from(hi) * 256 + usize::from(lo)
+}
 
 // F or L and a node size, or P and 0.
 pub(crate) fn is_choice(value: &[u8]) -> bool

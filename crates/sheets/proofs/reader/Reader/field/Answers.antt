@@ -1,7 +1,7 @@
 -- What the reader saw, handed to the lemmas on one step.
 use mathlib.Core.Path.{_≡_, ap, _∙_}
 use mathlib.Core.List.{List}
-use Prim.Native.Nat.{ℕ, _+_, _-_, _*_}
+use Prim.Native.Nat.{ℕ, _-_}
 use lib.ListN.{length, take, drop, length-drop}
 use borrow.Author.Needs.{needs}
 use Rattle.std.proofs.shelf.Lists.{take-rest}
@@ -13,10 +13,10 @@ use Rattle.sheets.proofs.reader.Reader.field.Needs as need
 use Rattle.sheets.proofs.reader.Reader.field.Needs.{After-split-at}
 
 -- what the reader has seen of the sheet once it cuts off the value
-seen : (c : After-split-at) → Front (c .args .self .now .rest .now) (c .in-Continue-kind .kind) (c .from .result * 256 + c .from-2 .result) (c .split-at .result .0 .now) (c .split-at .result .1 .now)
+seen : (c : After-split-at) → Front (c .args .self .now .rest .now) (c .in-Continue-kind .kind) (c .big-endian-size .result) (c .split-at .result .0 .now) (c .split-at .result .1 .now)
 seen c =
     let xs : List ℕ = c .args .self .now .rest .now in
-    let n : ℕ = c .from .result * 256 + c .from-2 .result in
+    let n : ℕ = c .big-endian-size .result in
     let all : take (length xs - 3) (drop 3 xs) ≡ drop 3 xs = take-rest xs 3 in
     record {
       long = search needs;

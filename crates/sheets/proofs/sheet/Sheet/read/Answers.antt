@@ -4,7 +4,7 @@ use native.Mathlib.Omega.{arith}
 use Rattle.std.specs.declared.option.Option.the-variants.{Some}
 use Rattle.sheets.specs.Fields.{told}
 use Rattle.sheets.specs.Grammar.{state, step}
-use Rattle.sheets.proofs.Readings.{none, too-long, no-first, no-directory, no-second, no-column, no-rest, all, bytes-fit}
+use Rattle.sheets.proofs.Readings.{none, no-first, no-directory, no-second, no-column, no-rest, all, bytes-fit}
 use Rattle.sheets.proofs.Steps.{went, stayed}
 use Rattle.sheets.proofs.sheet.Sheet.read.Needs as need
 use Rattle.sheets.proofs.sheet.Sheet.read.Needs.{In-Continue-directory, In-Continue-field}
@@ -14,11 +14,6 @@ first c = went (state (c .new-reader .result)) _ _ (c .in-Continue-directory .en
 
 second : (c : In-Continue-field) → Some (record { read = told (c .in-Continue-field .field-0); then = state (c .field-2 .last .self) }) ≡ step (state (c .field .last .self))
 second c = went (state (c .field .last .self)) _ _ (c .in-Continue-field .ensures tt .field) (c .in-Continue-field .ensures tt .reader)
-
-pub returns-then-bytes-gt-MOST : need.returns-then-bytes-gt-MOST
-returns-then-bytes-gt-MOST c =
-    let a = none (c .args .bytes .now) _ refl (too-long _ (c .if-bytes-gt-MOST .taken)) in
-    record { said = a .said; written = a .written }
 
 pub returns-in-Break-directory : need.returns-in-Break-directory
 returns-in-Break-directory c =
