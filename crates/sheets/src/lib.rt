@@ -1,8 +1,8 @@
 // The question sheet: bytes that hold a directory, a column and calls, as fields one after the other.
 //
-// - `Sheet` is a sheet that was read: its directory, its column, and a reader that stands at its first call.
+// - `Sheet` is a sheet that was read: its directory, its `Column`, and a reader that stands at its first call.
 // - `Field` is one field of a sheet, and `Part` the bytes of its value with their place in the sheet.
-// - `Reader` hands on the fields one by one.
+// - `Reader` hands on the fields one by one; it is copied to read the calls again.
 //
 // `Sheet::read` decides on the whole sheet before anything in it is tried, and allocates nothing. It promises the sheet
 // that the grammar (specs/Grammar.antt) reads, and the relation above the grammar (specs/Written.antt): the fields,
