@@ -8,9 +8,8 @@ use denote.Ref.{now}
 use Rattle.std.specs.Options.{mapped}
 use Rattle.std.specs.declared.option.Option.{Option}
 use Rattle.std.specs.declared.option.Option.the-variants.{Some, None}
-use Rattle.std.specs.declared.result.Result.the-variants.{Ok, Err}
+use Rattle.std.specs.declared.result.Result.the-variants.{Ok}
 use Rattle.keys.specs.Weights.{lighter}
-use Rattle.indexes.specs.declared.decline.Decline.{Decline}
 use Rattle.indexes.specs.declared.layout.Layout.{Layout}
 use Rattle.indexes.specs.Meaning.{Meaning}
 use Rattle.indexes.specs.Opening.{bare, opening}
@@ -23,16 +22,8 @@ use Rattle.sheets.specs.Fields.{Piece, piece}
 use Rattle.sheets.specs.Grammar.{is, Said, state, left, col, viewed, sheet}
 use Rattle.sheets.specs.Said.{layout-of, account-spelled, label-spelled, keys-of, requests-of}
 use Rattle.sheets.proofs.Options.{some-same, bind-parts}
-use Rattle.answers.specs.Printed.{decline-line, opened-text, column-text, smaller, bare-text, text-under, text-of, printed}
+use Rattle.answers.specs.Printed.{opened-text, column-text, smaller, bare-text, text-under, text-of, printed}
 use Rattle.answers.specs.Text.{lines}
-
--- a reading that gave no sheet
-pub no-sheet : (bs : List ℕ) → mapped viewed None ≡ mapped Some (sheet bs) → sheet bs ≡ None
-no-sheet bs e = none-of (sheet bs) e
-  where
-    none-of : (o : Option Said) → mapped viewed None ≡ mapped Some o → o ≡ None
-    none-of None e = refl
-    none-of (Some s) e = let z : _≡_ {A = ℕ} 0 1 = cc in absurd (omega arith)
 
 -- a reading that gave one: what it says is what the bytes say
 pub some-sheet : (bs : List ℕ) (r : Sheet) → mapped viewed (Some r) ≡ mapped Some (sheet bs) → (s : Said) × (viewed r ≡ Some s) × (sheet bs ≡ Some s)
@@ -60,13 +51,6 @@ pub opened-lines : {K : Type 0} (before : K → K → Bool) (w : ℕ) (spelled :
 opened-lines before w spelled letter column calls rows asked m out u read opened means none says =
     (λ j. lines before (means j) (none j) (says j))
     ∙ ap (λ o. opened-text letter o (lines before (bare before rows) none-struck (requests-of w spelled calls))) opened
-    ∙ ap (λ r. opened-text letter (opening before r) (lines before (bare before r) none-struck (requests-of w spelled calls))) read
-
--- the text over a column that was declined
-pub declined-line : {K : Type 0} (before : K → K → Bool) (w : ℕ) (spelled : List ℕ → K) (letter : ℕ) (column : List ℕ) (calls : List Piece) (rows : List K) (why : Decline)
-    → rows ≡ keys-of w spelled column → Err why ≡ opening before rows → decline-line letter why ≡ column-text before w spelled letter column calls
-declined-line before w spelled letter column calls rows why read declined =
-    ap (λ o. opened-text letter o (lines before (bare before rows) none-struck (requests-of w spelled calls))) declined
     ∙ ap (λ r. opened-text letter (opening before r) (lines before (bare before r) none-struck (requests-of w spelled calls))) read
 
 -- the text of a sheet by its column

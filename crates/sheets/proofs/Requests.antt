@@ -1,21 +1,25 @@
 -- What a sheet asks, taken from its fields one by one.
-use mathlib.Core.Path.{_≡_, refl, sym, ap, subst, _∙_}
+use mathlib.Core.Path.{_≡_, refl, sym, ap, _∙_}
 use mathlib.Core.List.{List, [], _∷_, _++_, append-assoc, append-nil}
-use mathlib.Core.Bool.{Bool, true, false}
-use Prim.Native.Nat.{ℕ, _-_, _<_}
+use Prim.Native.Nat.{ℕ, suc, _-_, _<_}
 use native.Mathlib.Omega.{arith}
 use lib.ListN.{length, getD, take, drop}
 use Rattle.std.proofs.shelf.Lists.{take-all}
 use Rattle.std.specs.Options.{mapped}
 use Rattle.std.specs.declared.option.Option.{Option}
 use Rattle.std.specs.declared.option.Option.the-variants.{Some, None}
+use Rattle.std.specs.shelf.Digits.{number}
+use Rattle.std.proofs.shelf.Tests.{eq-eqb}
 use Rattle.indexes.specs.declared.index.Side.{Side}
+use Rattle.indexes.specs.declared.index.Side.the-variants.{At, After}
+use Rattle.sheets.specs.declared.field.Kind.{Kind}
 use Rattle.sheets.specs.declared.request.Request.{Request}
 use Rattle.sheets.specs.declared.request.Request.the-variants as request
 use Rattle.sheets.specs.declared.sheet.Sheet.{Sheet}
 use Rattle.sheets.specs.Fields.{Piece}
-use Rattle.sheets.specs.Grammar.{Said, State, Step, state, step, left, viewed}
-use Rattle.sheets.specs.Said.{key-of, place-of, request-of, put-first, requests-of}
+use Rattle.sheets.specs.Grammar.{when, Said, State, Step, state, step, left, viewed}
+use Rattle.sheets.specs.Said.{key-of, place-of, request-as, request-of, put-first, requests-of}
+use Rattle.sheets.specs.Written.{Calls, strikes, restores, seeks-at, seeks-after, Calls-over}
 use Rattle.sheets.proofs.Left.{left-step, left-end}
 use Rattle.sheets.proofs.Options.{some-same, bind-parts}
 
@@ -53,3 +57,16 @@ module _ {K : Type 0} (w : ℕ) (spelled : List ℕ → K) where
       let h = asked s says in
       let none = left-end q (h .0) e (h .1) in
       sym (append-nil out) ∙ ap (λ l. out ++ requests-of w spelled l) (sym none) ∙ h .2
+
+  -- a call over keys of this width asks one thing
+  asks : (k : Kind) (v : List ℕ) → Calls w k v → (r : Request K) × (request-as w spelled k v ≡ Some r)
+  asks _ v (strikes e) = (request.Strike (number 256 v), ap (λ b. mapped request.Strike (when b (number 256 v))) (eq-eqb (length v) 4 e))
+  asks _ v (restores e) = (request.Restore (number 256 v), ap (λ b. mapped request.Restore (when b (number 256 v))) (eq-eqb (length v) 4 e))
+  asks _ (_ ∷ key) (seeks-at e) = (request.Place At (spelled key), ap (λ b. mapped (request.Place At) (when b (spelled key))) (eq-eqb (length key) w e))
+  asks _ (_ ∷ key) (seeks-after e) = (request.Place After (spelled key), ap (λ b. mapped (request.Place After) (when b (spelled key))) (eq-eqb (length key) w e))
+
+  pub asks-each : (fs : List Piece) → Calls-over w fs → length (requests-of w spelled fs) ≡ length fs
+  asks-each [] all = refl
+  asks-each (f ∷ fs) all =
+      let a = asks (f .kind) (f .value) (all .0) in
+      ap (λ o. length (put-first o (requests-of w spelled fs))) (a .1) ∙ ap suc (asks-each fs (all .1))

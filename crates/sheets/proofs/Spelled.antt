@@ -16,7 +16,7 @@ use Rattle.std.specs.declared.option.Option.the-variants.{Some, None}
 use Rattle.sheets.specs.declared.reader.Stage.{Stage}
 use Rattle.sheets.specs.declared.reader.Stage.the-variants as stage
 use Rattle.sheets.specs.Fields.{letter, Piece}
-use Rattle.sheets.specs.Grammar.{step-at, bind, Step, pieces, ended, fields}
+use Rattle.sheets.specs.Grammar.{step-at, bind, Step, pieces, fields}
 use Rattle.sheets.specs.Written.{framed, Placed, Within, Spells, Spelled}
 use Rattle.sheets.proofs.Letters.{letter-kind, kind-letter}
 use Rattle.sheets.proofs.Left.{ended-nil}

@@ -31,12 +31,16 @@ pub data Calls : ℕ → Kind → List ℕ → Type 0 where
   seeks-at : {w : ℕ} {key : List ℕ} → length key ≡ w → Calls w Place (at ∷ key)
   seeks-after : {w : ℕ} {key : List ℕ} → length key ≡ w → Calls w Place (after ∷ key)
 
+-- fields that are calls over keys of w bytes
+abbrev pub Calls-over : ℕ → List Piece → Type 0
+Calls-over w calls = All (λ f. Calls w (f .kind) (f .value)) calls
+
 -- a directory, then one column, then calls over its keys
 abbrev pub Ordered : List Piece → Type 0
 Ordered [] = ⊥
 Ordered (d ∷ []) = ⊥
 Ordered (d ∷ c ∷ calls) =
-    Chooses (d .kind) (d .value) × ((w : ℕ) × Holds w (c .kind) (c .value) × All (λ f. Calls w (f .kind) (f .value)) calls)
+    Chooses (d .kind) (d .value) × ((w : ℕ) × Holds w (c .kind) (c .value) × Calls-over w calls)
 
 -- from the place p on, each value follows the three bytes of its head
 abbrev pub Placed : ℕ → List Piece → Type 0

@@ -1,11 +1,10 @@
 -- One request more, answered by the reference.
-use mathlib.Core.Path.{refl, sym, ap, _∙_}
+use mathlib.Core.Path.{refl, ap, _∙_}
 use mathlib.Core.List.{_++_}
-use native.Mathlib.Omega.{arith}
 use Rattle.layers.specs.Reference.{reply, set-after}
 use Rattle.layers.specs.Table.{has}
 use Rattle.layers.specs.Views.{out-of}
-use Rattle.answers.specs.Text.{lines, call-of, line, told}
+use Rattle.answers.specs.Text.{lines, line, told}
 use Rattle.std.specs.Of.String.{string-bytes}
 use Rattle.answers.proofs.Lines.{lines-more, lines-none}
 use Rattle.answers.proofs.run.run.Needs as need

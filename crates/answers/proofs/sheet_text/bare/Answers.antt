@@ -1,5 +1,5 @@
 -- The column of the sheet is the one that the text is over.
-use mathlib.Core.Path.{_≡_, sym, ap, subst, _∙_}
+use mathlib.Core.Path.{_≡_, ap, subst, _∙_}
 use Rattle.std.specs.Of.String.{string-bytes}
 use Rattle.std.specs.Vec.{made}
 use Rattle.sheets.specs.Grammar.{col}

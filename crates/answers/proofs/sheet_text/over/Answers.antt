@@ -1,10 +1,10 @@
 -- What was read, opened and asked gives the text; a declined column its one line.
-use mathlib.Core.Path.{_≡_, refl, sym, ap, subst, _∙_, fun-ext}
+use mathlib.Core.Path.{_≡_, refl, ap, subst, _∙_, fun-ext}
 use Rattle.std.specs.Of.String.{string-bytes}
 use Rattle.std.specs.Vec.{made}
 use Rattle.indexes.specs.Opening.{bare, column-of}
 use Rattle.layers.specs.Table.{has}
-use Rattle.answers.proofs.Sheets.{opened-lines, declined-line}
+use Rattle.answers.proofs.Sheets.{opened-lines}
 use Rattle.answers.proofs.sheet_text.over.Needs as need
 
 pub returns : need.returns
@@ -19,5 +19,5 @@ returns g c s says =
     (opens .answers)
     (ap (λ x. bare before (column-of x)) (c .new .ensures .below) ∙ ap (bare before) (opens .holds))
     (ap has (c .new .ensures .none) ∙ fun-ext (λ r. refl))
-    (c .as-slice-2 .ensures .value ∙ c .in-Continue-requests .ensures tt s says))
+    (c .as-slice-2 .ensures .value ∙ c .in-Continue-requests .ensures tt .asks s says))
     (c .run .ensures)

@@ -1,10 +1,11 @@
 -- One field more, and what it asks.
-use mathlib.Core.Path.{refl, sym, ap, subst, _∙_}
-use mathlib.Core.List.{[], _∷_, _++_, append-nil}
+use mathlib.Core.Path.{sym, ap, subst, _∙_}
+use mathlib.Core.List.{[], _++_, append-nil}
+use lib.ListN.{length}
 use Rattle.std.specs.Of.Vec.{vec-items}
 use Rattle.sheets.specs.Grammar.{state}
 use Rattle.sheets.specs.Said.{put-first}
-use Rattle.sheets.proofs.Requests.{Asked, asked-none, asked-more, asked-all}
+use Rattle.sheets.proofs.Requests.{Asked, asked-none, asked-more, asked-all, asks-each}
 use Rattle.sheets.proofs.Steps.{went, stayed, taken, shorter}
 use Rattle.sheets.proofs.sheet.Sheet.requests.Needs as need
 
@@ -32,4 +33,8 @@ loop-field-again g c =
     (sym (append-nil (vec-items (c .loop-field .requests))) ∙ ap (λ o. vec-items (c .loop-field .requests) ++ put-first o []) (c .in-rest-of .ensures tt))
 
 pub returns : need.returns
-returns g c = asked-all (g .K·SheetKey .width) (g .K·SheetKey .spelled) (c .args .self .now) (vec-items (c .loop-field .requests)) (state (c .loop-field .reader)) (c .loop-field .inv) (stayed (state (c .loop-field .reader)) (c .in-rest .ensures tt .field))
+returns g c =
+    let w = g .K·SheetKey .width in
+    let spelled = g .K·SheetKey .spelled in
+    let asks = asked-all w spelled (c .args .self .now) (vec-items (c .loop-field .requests)) (state (c .loop-field .reader)) (c .loop-field .inv) (stayed (state (c .loop-field .reader)) (c .in-rest .ensures tt .field)) in
+    record { asks = asks; one-each = λ s says all. ap length (asks s says) ∙ asks-each w spelled (s .calls) all }
