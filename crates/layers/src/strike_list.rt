@@ -92,8 +92,7 @@ pub impl<K: Key, I: Index<K>> Index<K> for StrikeList<K, I> as StrikeListAsIndex
     ghost opened = { Kept (I·Index .opened) (I·Index .means) };
 
     fn len(&self) -> usize {
-        let n = self.below.len();
-        n - self.struck.rank(n as u32)
+        self.struck.in_sight(self.below.len())
     }
 
     fn ceiling(&self) -> u32 {
@@ -110,7 +109,7 @@ pub impl<K: Key, I: Index<K>> Index<K> for StrikeList<K, I> as StrikeListAsIndex
     fn place(&self, key: &K, side: Side) -> Counted<usize> {
         let found = self.below.place(key, side);
         Counted {
-            answer: found.answer - self.struck.rank(found.answer as u32),
+            answer: self.struck.in_sight(found.answer),
             comparisons: found.comparisons,
         }
     }

@@ -2,7 +2,8 @@
 ghost use mathlib.Core.Path.{_≡_};
 ghost use mathlib.Core.Bool.{false};
 ghost use mathlib.Core.List.{[]};
-ghost use Prim.Native.Nat.{_+_, _^_, _<_, _≤_};
+ghost use Prim.Native.Nat.{_+_, _-_, _^_, _<_, _≤_};
+ghost use lib.Dec.{leb};
 ghost use Rattle.layers.specs.Table.{listed, has, under, position-of, insert-answer, remove-answer, with-number, without-number};
 ghost use Rattle.layers.specs.Views.{numbers};
 use super::StruckRow;
@@ -53,6 +54,22 @@ impl StruckRows {
         }
     }
 
+    // How many of the first `number` rows below are in sight.
+    pub(crate) fn in_sight(&self, number: usize) -> usize
+        requires few { ⌜ number < 2 ^ 32 ⌝ }
+        requires enough { ⌜ under (numbers (now self)) number ≤ number ⌝ }
+        ensures { λ r. ⌜ r ≡ number - under (numbers (now (self .entry))) number ⌝ }
+    {
+        number - self.rank(number as u32)
+    }
+
+    // Is there no free entry?
+    fn is_full(&self) -> bool
+        ensures { λ r. ⌜ r ≡ leb 64 (now (self .entry) .len) ⌝ }
+    {
+        self.len >= MAX_STRUCK
+    }
+
     // The number of the row that has `place` rows in sight below it and is in sight itself.
     pub(crate) fn unstruck(&self, place: usize) -> usize
         requires { ⌜ place < 2 ^ 32 ⌝ }
@@ -73,7 +90,7 @@ impl StruckRows {
         if self.position(row).is_some() {
             return Err(Decline::AlreadySo);
         }
-        if self.len >= MAX_STRUCK {
+        if self.is_full() {
             return Err(Decline::ListFull);
         }
         let at = self.rank(row);
