@@ -1,0 +1,49 @@
+// Random sheets: columns with many equal rows, a few of them out of order, and random calls.
+use crate::question::Kind;
+use crate::question::Question;
+use crate::random::Random;
+use crate::sorted::sorted;
+use crate::table::Tally;
+use std::alloc::AllocError;
+use std::alloc::Global;
+
+// How far the account numbers of a column are spread; the next above, too, are sought.
+const SPREADS: [u32; 4] = [2, 12, 250, u32::MAX];
+
+fn sheet(
+    heap: Global,
+    tally: &mut Tally,
+    random: &mut Random,
+    kind: Kind,
+    calls: u32,
+) -> Result<(), AllocError> {
+    let spread = SPREADS.get(random.below(4) as usize).copied().unwrap_or(2);
+    let len = random.below(201);
+    let keys = random.keys(heap, kind, spread, len)?;
+    let rows = sorted(heap, keys.as_slice())?;
+    let in_order = random.below(20) != 0;
+    let mut asks = Vec::new(heap);
+    for _ in 0..random.below(calls.saturating_add(1)) {
+        asks.push(random.ask(kind, spread.saturating_add(2), len))?;
+    }
+    let question = Question {
+        kind,
+        rows: if in_order {
+            rows.as_slice()
+        } else {
+            keys.as_slice()
+        },
+        asks: asks.as_slice(),
+    };
+    tally.question(heap, &question)
+}
+
+// So many sheets, each with up to `calls` calls.
+pub fn tried(heap: Global, kind: Kind, sheets: u32, calls: u32) -> Result<Tally, AllocError> {
+    let mut tally = Tally::new();
+    let mut random = Random::seeded(0x2545_F491_4F6C_DD1D);
+    for _ in 0..sheets {
+        sheet(heap, &mut tally, &mut random, kind, calls)?;
+    }
+    Ok(tally)
+}

@@ -1,0 +1,80 @@
+// Numbers that look random and are the same in every run: a xorshift generator.
+use crate::question::Ask;
+use crate::question::Kind;
+use crate::question::PlainKey;
+use crate::question::PlainSide;
+use std::alloc::AllocError;
+use std::alloc::Global;
+
+#[derive(Drop)]
+pub struct Random {
+    state: u64,
+}
+
+// What labels are made of: letters in both cases, and bytes beside them.
+const ALPHABET: [u8; 16] = *b"aAaAbBzZzZ@[`{ ~";
+
+impl Random {
+    pub fn seeded(seed: u64) -> Random {
+        Random { state: seed }
+    }
+
+    fn next(&mut self) -> u64 {
+        self.state ^= self.state << 13;
+        self.state ^= self.state >> 7;
+        self.state ^= self.state << 17;
+        self.state
+    }
+
+    // A number below the bound; 0 where that is 0.
+    pub fn below(&mut self, bound: u32) -> u32 {
+        let high = (self.next() >> 32) as u32;
+        high.checked_rem(bound).unwrap_or(0)
+    }
+
+    fn byte(&mut self) -> u8 {
+        let at = self.below(16) as usize;
+        ALPHABET.get(at).copied().unwrap_or(0)
+    }
+
+    // A label whose first and last bytes are drawn; the others are the same in all.
+    fn label(&mut self) -> PlainKey {
+        let mut bytes = *b"?Label of a row?";
+        bytes[0] = self.byte();
+        bytes[15] = self.byte();
+        PlainKey::Label(bytes)
+    }
+
+    // A key; an account number is below `spread`.
+    pub fn key(&mut self, kind: Kind, spread: u32) -> PlainKey {
+        match kind {
+            Kind::Accounts => PlainKey::Account(self.below(spread)),
+            Kind::Labels => self.label(),
+        }
+    }
+
+    // A call on a column of so many rows; one row number in a few is past its end.
+    pub fn ask(&mut self, kind: Kind, spread: u32, rows: u32) -> Ask {
+        let row = self.below(rows.saturating_add(2));
+        match self.below(6) {
+            0 | 1 => Ask::Strike(row),
+            2 => Ask::Restore(row),
+            3 => Ask::Place(PlainSide::At, self.key(kind, spread)),
+            _ => Ask::Place(PlainSide::After, self.key(kind, spread)),
+        }
+    }
+
+    pub fn keys(
+        &mut self,
+        heap: Global,
+        kind: Kind,
+        spread: u32,
+        len: u32,
+    ) -> Result<Vec<PlainKey>, AllocError> {
+        let mut keys = Vec::new(heap);
+        for _ in 0..len {
+            keys.push(self.key(kind, spread))?;
+        }
+        Ok(keys)
+    }
+}
