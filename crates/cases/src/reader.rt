@@ -119,7 +119,7 @@ impl EveryRow {
         count
     }
 
-    // The rounds of a halving search over the whole column, struck rows too.
+    // The rounds of halving the whole column, struck rows too.
     fn comparisons(&self, side: PlainSide, sought: u128) -> u32 {
         let mut rounds = 0u32;
         let mut lo = 0;
