@@ -30,21 +30,21 @@ fn built(rt: &LibcRuntime, all: &mut Tally) -> Result<(), AnyError> {
     all.group(
         rt,
         "every key over few rows and equal rows",
-        every_key::tried(heap)?,
+        every_key::tried(heap),
     )?;
     all.group(
         rt,
         "labels that differ only in case",
         letter_case::tried(heap)?,
     )?;
-    all.group(rt, "strikes and restores", strikes::tried(heap)?)?;
+    all.group(rt, "strikes and restores", strikes::tried(heap))?;
     all.group(
         rt,
         "columns out of order, sheets without calls",
-        out_of_order::tried(heap)?,
+        out_of_order::tried(heap),
     )?;
     all.group(rt, "malformed sheets by hand", malformed::tried(heap))?;
-    all.group(rt, "every tag, letter and length", every_byte::tried(heap)?)?;
+    all.group(rt, "every tag, letter and length", every_byte::tried(heap))?;
     all.group(rt, "good sheets cut at every length", cuts::tried(heap)?)?;
     all.group(
         rt,

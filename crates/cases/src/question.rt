@@ -1,6 +1,4 @@
 // A question in plain values, before it is written as a sheet's bytes.
-use std::alloc::AllocError;
-use std::alloc::Global;
 
 #[derive(Clone, Copy)]
 pub enum Kind {
@@ -45,39 +43,15 @@ impl Kind {
     }
 }
 
-// Rows or sought keys with these account numbers.
-pub fn accounts(heap: Global, numbers: &[u32]) -> Result<Vec<PlainKey>, AllocError> {
-    let mut keys = Vec::new(heap);
-    for number in numbers {
-        keys.push(PlainKey::Account(*number))?;
-    }
-    Ok(keys)
+pub fn at(key: PlainKey) -> Ask {
+    Ask::Place(PlainSide::At, key)
 }
 
-// The label that begins with this text, and goes on in spaces.
-fn label(text: &str) -> PlainKey {
-    let mut bytes = [b' '; 16];
-    for (place, byte) in bytes.iter_mut().zip(text.bytes()) {
-        *place = byte;
-    }
-    PlainKey::Label(bytes)
+pub fn after(key: PlainKey) -> Ask {
+    Ask::Place(PlainSide::After, key)
 }
 
-// Rows or sought keys with these labels.
-pub fn labels(heap: Global, texts: &[&str]) -> Result<Vec<PlainKey>, AllocError> {
-    let mut keys = Vec::new(heap);
-    for text in texts {
-        keys.push(label(text))?;
-    }
-    Ok(keys)
-}
-
-// Both sides of each key.
-pub fn both_sides(heap: Global, keys: &[PlainKey]) -> Result<Vec<Ask>, AllocError> {
-    let mut asks = Vec::new(heap);
-    for key in keys {
-        asks.push(Ask::Place(PlainSide::At, *key))?;
-        asks.push(Ask::Place(PlainSide::After, *key))?;
-    }
-    Ok(asks)
+// The first `len` of these items, or all.
+pub fn front<T>(items: &[T], len: usize) -> &[T] {
+    items.get(0..len).unwrap_or(items)
 }

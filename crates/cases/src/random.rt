@@ -1,8 +1,9 @@
-// Numbers that look random and are the same in every run: a xorshift generator.
+// Keys and calls that look random and are the same in every run, by a xorshift generator.
 use crate::question::Ask;
 use crate::question::Kind;
 use crate::question::PlainKey;
-use crate::question::PlainSide;
+use crate::question::after;
+use crate::question::at;
 use std::alloc::AllocError;
 use std::alloc::Global;
 
@@ -46,35 +47,49 @@ impl Random {
     }
 
     // A key; an account number is below `spread`.
-    pub fn key(&mut self, kind: Kind, spread: u32) -> PlainKey {
+    fn key(&mut self, kind: Kind, spread: u32) -> PlainKey {
         match kind {
             Kind::Accounts => PlainKey::Account(self.below(spread)),
             Kind::Labels => self.label(),
         }
     }
 
-    // A call on a column of so many rows; one row number in a few is past its end.
-    pub fn ask(&mut self, kind: Kind, spread: u32, rows: u32) -> Ask {
-        let row = self.below(rows.saturating_add(2));
+    // A call on a column of at most 200 rows; some row numbers are past its end.
+    fn ask(&mut self, kind: Kind, spread: u32) -> Ask {
         match self.below(6) {
-            0 | 1 => Ask::Strike(row),
-            2 => Ask::Restore(row),
-            3 => Ask::Place(PlainSide::At, self.key(kind, spread)),
-            _ => Ask::Place(PlainSide::After, self.key(kind, spread)),
+            0 | 1 => Ask::Strike(self.below(210)),
+            2 => Ask::Restore(self.below(210)),
+            3 => at(self.key(kind, spread)),
+            _ => after(self.key(kind, spread)),
         }
     }
 
+    // At most 200 keys.
     pub fn keys(
         &mut self,
         heap: Global,
         kind: Kind,
         spread: u32,
-        len: u32,
     ) -> Result<Vec<PlainKey>, AllocError> {
         let mut keys = Vec::new(heap);
-        for _ in 0..len {
+        for _ in 0..self.below(201) {
             keys.push(self.key(kind, spread))?;
         }
         Ok(keys)
+    }
+
+    // At most `most` calls.
+    pub fn asks(
+        &mut self,
+        heap: Global,
+        kind: Kind,
+        spread: u32,
+        most: u32,
+    ) -> Result<Vec<Ask>, AllocError> {
+        let mut asks = Vec::new(heap);
+        for _ in 0..self.below(most.saturating_add(1)) {
+            asks.push(self.ask(kind, spread))?;
+        }
+        Ok(asks)
     }
 }

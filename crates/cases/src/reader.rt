@@ -7,11 +7,16 @@ use crate::question::Question;
 use std::alloc::AllocError;
 use std::alloc::Global;
 
-// The rows, as numbers that are ordered as the keys are, and which of them are struck.
+// A row, as a number that is ordered as the keys are.
+#[derive(Clone, Copy)]
+struct PlainRow {
+    rank: u128,
+    struck: bool,
+}
+
 #[derive(Drop)]
 struct EveryRow {
-    ranks: Vec<u128>,
-    struck: Vec<bool>,
+    rows: Vec<PlainRow>,
 }
 
 // A label's bytes by what they weigh, 97 to 122 as 32 less, the first the heaviest; an account's number.
@@ -44,22 +49,25 @@ impl PlainSide {
 }
 
 impl EveryRow {
-    fn new(heap: Global, rows: &[PlainKey]) -> Result<EveryRow, AllocError> {
-        let mut ranks = Vec::new(heap);
-        let mut struck = Vec::new(heap);
-        for row in rows {
-            ranks.push(rank(row))?;
-            struck.push(false)?;
+    fn new(heap: Global, keys: &[PlainKey]) -> Result<EveryRow, AllocError> {
+        let mut rows = Vec::new(heap);
+        for key in keys {
+            rows.push(PlainRow {
+                rank: rank(key),
+                struck: false,
+            })?;
         }
-        Ok(EveryRow { ranks, struck })
+        Ok(EveryRow { rows })
     }
 
     // Does no row come before its predecessor?
     fn is_ordered(&self) -> bool {
-        for (row, next) in self.ranks.iter().zip(self.ranks.iter().skip(1)) {
-            if next < row {
+        let mut last = 0u128;
+        for row in self.rows.as_slice() {
+            if row.rank < last {
                 return false;
             }
+            last = row.rank;
         }
         true
     }
@@ -67,8 +75,8 @@ impl EveryRow {
     // Are 64 rows struck?
     fn is_full(&self) -> bool {
         let mut count = 0u32;
-        for struck in self.struck.iter() {
-            if *struck {
+        for row in self.rows.as_slice() {
+            if row.struck {
                 count = count.saturating_add(1);
             }
         }
@@ -78,15 +86,15 @@ impl EveryRow {
     // The number that a strike is declined with, or 0.
     fn strike(&mut self, row: u32) -> u8 {
         let full = self.is_full();
-        match self.struck.get_mut(row as usize) {
+        match self.rows.get_mut(row as usize) {
             None => 6,
-            Some(struck) => {
-                if *struck {
+            Some(found) => {
+                if found.struck {
                     7
                 } else if full {
                     8
                 } else {
-                    *struck = true;
+                    found.struck = true;
                     0
                 }
             }
@@ -95,11 +103,11 @@ impl EveryRow {
 
     // The number that a restore is declined with, or 0.
     fn restore(&mut self, row: u32) -> u8 {
-        match self.struck.get_mut(row as usize) {
+        match self.rows.get_mut(row as usize) {
             None => 6,
-            Some(struck) => {
-                if *struck {
-                    *struck = false;
+            Some(found) => {
+                if found.struck {
+                    found.struck = false;
                     0
                 } else {
                     7
@@ -111,8 +119,8 @@ impl EveryRow {
     // How many rows in sight are passed.
     fn place(&self, side: PlainSide, sought: u128) -> usize {
         let mut count = 0usize;
-        for (row, struck) in self.ranks.iter().zip(self.struck.iter()) {
-            if !*struck && side.passes(*row, sought) {
+        for row in self.rows.as_slice() {
+            if !row.struck && side.passes(row.rank, sought) {
                 count = count.saturating_add(1);
             }
         }
@@ -123,12 +131,15 @@ impl EveryRow {
     fn comparisons(&self, side: PlainSide, sought: u128) -> u32 {
         let mut rounds = 0u32;
         let mut lo = 0;
-        let mut hi = self.ranks.len();
+        let mut hi = self.rows.len();
         while lo < hi {
             let middle = lo + (hi - lo) / 2;
-            let row = self.ranks.get(middle).copied().unwrap_or(0);
+            let passes = match self.rows.get(middle) {
+                Some(row) => side.passes(row.rank, sought),
+                None => false,
+            };
             rounds = rounds.saturating_add(1);
-            if side.passes(row, sought) {
+            if passes {
                 lo = middle + 1;
             } else {
                 hi = middle;
@@ -139,21 +150,16 @@ impl EveryRow {
 
     // The line of one call.
     fn line(&mut self, heap: Global, ask: &Ask) -> Result<String, AllocError> {
-        match ask {
-            Ask::Strike(row) => {
-                let number = self.strike(*row);
-                format!(heap, "S {number}\n")
-            }
-            Ask::Restore(row) => {
-                let number = self.restore(*row);
-                format!(heap, "R {number}\n")
-            }
+        let (letter, number) = match ask {
+            Ask::Strike(row) => ('S', self.strike(*row)),
+            Ask::Restore(row) => ('R', self.restore(*row)),
             Ask::Place(side, key) => {
                 let place = self.place(*side, rank(key));
                 let comparisons = self.comparisons(*side, rank(key));
-                format!(heap, "Q 0 {place} {comparisons}\n")
+                return format!(heap, "Q 0 {place} {comparisons}\n");
             }
-        }
+        };
+        format!(heap, "{letter} {number}\n")
     }
 }
 

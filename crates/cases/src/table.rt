@@ -3,7 +3,6 @@ use crate::question::Question;
 use crate::reader::text_of;
 use crate::written::sheet_of;
 use answers::answer;
-use std::alloc::AllocError;
 use std::alloc::Global;
 use std::io;
 
@@ -37,24 +36,20 @@ impl Tally {
         }
     }
 
-    // One question, held against the reader of every row.
-    pub fn question(&mut self, heap: Global, question: &Question<'_>) -> Result<(), AllocError> {
-        let sheet = sheet_of(heap, question)?;
-        let expected = text_of(heap, question)?;
-        self.sheet(heap, sheet.as_slice(), expected.as_str());
-        Ok(())
+    // One question, held against the reader of every row; want of memory counts as a difference.
+    pub fn question(&mut self, heap: Global, question: &Question<'_>) {
+        match (sheet_of(heap, question), text_of(heap, question)) {
+            (Ok(sheet), Ok(expected)) => self.sheet(heap, sheet.as_slice(), expected.as_str()),
+            _ => self.note(false),
+        }
     }
 
     // One question, held against a text that was worked by hand.
-    pub fn by_hand(
-        &mut self,
-        heap: Global,
-        question: &Question<'_>,
-        expected: &str,
-    ) -> Result<(), AllocError> {
-        let sheet = sheet_of(heap, question)?;
-        self.sheet(heap, sheet.as_slice(), expected);
-        Ok(())
+    pub fn by_hand(&mut self, heap: Global, question: &Question<'_>, expected: &str) {
+        match sheet_of(heap, question) {
+            Ok(sheet) => self.sheet(heap, sheet.as_slice(), expected),
+            Err(_) => self.note(false),
+        }
     }
 
     // Prints the line of a group, and adds it to the sum.

@@ -10,7 +10,7 @@ use std::alloc::Global;
 const BARE: [u8; 5] = *b"D\x00\x02P\x00";
 
 // Adds a field; its value has at most 65,535 bytes.
-pub fn add_field(sheet: &mut Vec<u8>, tag: u8, value: &[u8]) -> Result<(), AllocError> {
+fn add_field(sheet: &mut Vec<u8>, tag: u8, value: &[u8]) -> Result<(), AllocError> {
     let [.., hi, lo] = value.len().to_be_bytes();
     sheet.extend_from_slice(&[tag, hi, lo])?;
     sheet.extend_from_slice(value)

@@ -2,20 +2,15 @@
 use crate::question::Ask;
 use crate::question::Kind;
 use crate::question::PlainKey;
-use crate::question::PlainSide;
 use crate::question::Question;
-use crate::question::accounts;
-use crate::question::labels;
+use crate::question::after;
+use crate::question::at;
+use crate::question::front;
 use crate::reader::text_of;
 use crate::table::Tally;
 use crate::written::sheet_of;
 use std::alloc::AllocError;
 use std::alloc::Global;
-
-// The first `len` of these items.
-fn front<T>(items: &[T], len: usize) -> &[T] {
-    items.get(0..len).unwrap_or(items)
-}
 
 fn every_cut(heap: Global, tally: &mut Tally, whole: &Question<'_>) -> Result<(), AllocError> {
     let sheet = sheet_of(heap, whole)?;
@@ -47,49 +42,36 @@ fn cut(
 ) -> Result<(), AllocError> {
     let asks = [
         Ask::Strike(1),
-        Ask::Place(PlainSide::At, key),
+        at(key),
         Ask::Strike(1),
-        Ask::Place(PlainSide::After, key),
+        after(key),
         Ask::Restore(1),
         Ask::Restore(9),
     ];
-    every_cut(
-        heap,
-        tally,
-        &Question {
-            kind,
-            rows,
-            asks: &asks,
-        },
-    )
+    let whole = Question {
+        kind,
+        rows,
+        asks: &asks,
+    };
+    every_cut(heap, tally, &whole)
 }
 
 pub fn tried(heap: Global) -> Result<Tally, AllocError> {
     let mut tally = Tally::new();
-    let numbers = accounts(heap, &[10, 20, 20, 30, 40])?;
+    let [small, large] = [PlainKey::Account(10), PlainKey::Account(20)];
     cut(
         heap,
         &mut tally,
         Kind::Accounts,
-        numbers.as_slice(),
-        PlainKey::Account(20),
+        &[small, large, large],
+        large,
     )?;
-    let texts = labels(heap, &["apple", "APPLE", "pear"])?;
-    cut(
-        heap,
-        &mut tally,
-        Kind::Labels,
-        texts.as_slice(),
-        PlainKey::Label(*b"Apple           "),
-    )?;
-    cut(heap, &mut tally, Kind::Accounts, &[], PlainKey::Account(0))?;
-    let falling = accounts(heap, &[20, 10])?;
-    cut(
-        heap,
-        &mut tally,
-        Kind::Accounts,
-        falling.as_slice(),
-        PlainKey::Account(15),
-    )?;
+    cut(heap, &mut tally, Kind::Accounts, &[large, small], large)?;
+    cut(heap, &mut tally, Kind::Accounts, &[], small)?;
+    let [apple, pear] = [
+        PlainKey::Label(*b"apple           "),
+        PlainKey::Label(*b"PEAR            "),
+    ];
+    cut(heap, &mut tally, Kind::Labels, &[apple, pear, pear], pear)?;
     Ok(tally)
 }

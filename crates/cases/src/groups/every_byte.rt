@@ -1,7 +1,6 @@
-// Every byte as a tag and as a letter, and every length of a value up to 70, each where it is allowed and where not.
+// Every byte as a tag and as a letter, and every length of a value below 80, each where it is allowed and where not.
+use crate::question::front;
 use crate::table::Tally;
-use crate::written::add_field;
-use std::alloc::AllocError;
 use std::alloc::Global;
 
 const MALFORMED: &str = "X 12\n";
@@ -56,47 +55,84 @@ fn byte(heap: Global, tally: &mut Tally, byte: u8) {
     tally.sheet(heap, &slots, text_if(byte == 0, ""));
 }
 
-// The sheet that is `start` and then a field of `len` bytes: `first` and else zeros.
-fn with_field(
-    heap: Global,
-    start: &str,
+// A field of `len` bytes behind `start`: `first` and else zeros.
+#[derive(Clone, Copy)]
+struct Added<'a> {
+    start: &'a [u8],
     tag: u8,
     first: u8,
-    len: usize,
-) -> Result<Vec<u8>, AllocError> {
-    let mut value = Vec::new(heap);
-    for place in 0..len {
-        value.push(if place == 0 { first } else { 0 })?;
+    len: u8,
+}
+
+fn field(heap: Global, tally: &mut Tally, added: Added<'_>, expected: &str) {
+    let mut sheet = [0u8; 96];
+    let head = [added.tag, 0, added.len, added.first];
+    for (place, byte) in sheet.iter_mut().zip(added.start) {
+        *place = *byte;
     }
-    let mut sheet = Vec::from_slice(heap, start.as_bytes())?;
-    add_field(&mut sheet, tag, value.as_slice())?;
-    Ok(sheet)
+    for (place, byte) in sheet.iter_mut().skip(added.start.len()).zip(&head) {
+        *place = *byte;
+    }
+    let len = added.start.len().saturating_add(3 + usize::from(added.len));
+    tally.sheet(heap, front(&sheet, len), expected);
 }
 
-// A value of this length as a directory, as a column and as a call.
-fn length(heap: Global, tally: &mut Tally, len: usize) -> Result<(), AllocError> {
-    let accounts = with_field(heap, "D\0\x02P\0", b'K', 0, len)?;
-    tally.sheet(heap, accounts.as_slice(), text_if(len % 4 == 0, ""));
-    let labels = with_field(heap, "D\0\x02P\0", b'T', 0, len)?;
-    tally.sheet(heap, labels.as_slice(), text_if(len % 16 == 0, ""));
-    let strike = with_field(heap, "D\0\x02P\0K\0\0", b'S', 0, len)?;
-    tally.sheet(heap, strike.as_slice(), text_if(len == 4, "S 6\n"));
-    let restore = with_field(heap, "D\0\x02P\0T\0\0", b'R', 0, len)?;
-    tally.sheet(heap, restore.as_slice(), text_if(len == 4, "R 6\n"));
-    let account = with_field(heap, "D\0\x02P\0K\0\0", b'Q', b'a', len)?;
-    tally.sheet(heap, account.as_slice(), text_if(len == 5, "Q 0 0 0\n"));
-    let label = with_field(heap, "D\0\x02P\0T\0\0", b'Q', b'n', len)?;
-    tally.sheet(heap, label.as_slice(), text_if(len == 17, "Q 0 0 0\n"));
-    Ok(())
+// A value of this length as a column and as a call.
+fn length(heap: Global, tally: &mut Tally, len: u8) {
+    let bare = Added {
+        start: b"D\x00\x02P\x00",
+        tag: b'K',
+        first: 0,
+        len,
+    };
+    field(heap, tally, bare, text_if(len % 4 == 0, ""));
+    field(
+        heap,
+        tally,
+        Added { tag: b'T', ..bare },
+        text_if(len % 16 == 0, ""),
+    );
+    let accounts = Added {
+        start: b"D\x00\x02P\x00K\x00\x00",
+        tag: b'Q',
+        first: b'a',
+        len,
+    };
+    field(heap, tally, accounts, text_if(len == 5, "Q 0 0 0\n"));
+    field(
+        heap,
+        tally,
+        Added {
+            tag: b'S',
+            ..accounts
+        },
+        text_if(len == 4, "S 6\n"),
+    );
+    let labels = Added {
+        start: b"D\x00\x02P\x00T\x00\x00",
+        tag: b'Q',
+        first: b'n',
+        len,
+    };
+    field(heap, tally, labels, text_if(len == 17, "Q 0 0 0\n"));
+    field(
+        heap,
+        tally,
+        Added {
+            tag: b'R',
+            ..labels
+        },
+        text_if(len == 4, "R 6\n"),
+    );
 }
 
-pub fn tried(heap: Global) -> Result<Tally, AllocError> {
+pub fn tried(heap: Global) -> Tally {
     let mut tally = Tally::new();
     for value in 0..=255u8 {
         byte(heap, &mut tally, value);
     }
-    for len in 0..70 {
-        length(heap, &mut tally, len)?;
+    for len in 0..80u8 {
+        length(heap, &mut tally, len);
     }
-    Ok(tally)
+    tally
 }

@@ -1,57 +1,60 @@
 // Every key from below the first row to above the last, on both sides, over columns of few and of many equal rows.
+use crate::question::Ask;
 use crate::question::Kind;
+use crate::question::PlainKey;
 use crate::question::Question;
-use crate::question::accounts;
-use crate::question::both_sides;
+use crate::question::after;
+use crate::question::at;
+use crate::question::front;
 use crate::table::Tally;
-use std::alloc::AllocError;
 use std::alloc::Global;
 
-// The keys sought: each up to 70, and the largest two.
-fn sought(heap: Global) -> Result<Vec<u32>, AllocError> {
-    let mut numbers = Vec::new(heap);
-    for number in 0..70u32 {
-        numbers.push(number)?;
+// Both sides of each number below 70, and the largest.
+fn sought() -> [Ask; 141] {
+    let mut asks = [after(PlainKey::Account(u32::MAX)); 141];
+    for (number, ask) in (0..140u32).zip(asks.iter_mut()) {
+        let key = PlainKey::Account(number / 2);
+        *ask = if number % 2 == 0 { at(key) } else { after(key) };
     }
-    numbers.push(u32::MAX - 1)?;
-    numbers.push(u32::MAX)?;
-    Ok(numbers)
+    asks
 }
 
-// Every key over one column.
-fn over(heap: Global, tally: &mut Tally, rows: &[u32]) -> Result<(), AllocError> {
-    let rows = accounts(heap, rows)?;
-    let keys = sought(heap)?;
-    let keys = accounts(heap, keys.as_slice())?;
-    let asks = both_sides(heap, keys.as_slice())?;
-    let question = Question {
-        kind: Kind::Accounts,
-        rows: rows.as_slice(),
-        asks: asks.as_slice(),
-    };
-    tally.question(heap, &question)
-}
-
-// A column of `len` rows in which each number stands `run` times.
-fn in_runs(heap: Global, len: u32, run: u32) -> Result<Vec<u32>, AllocError> {
-    let mut rows = Vec::new(heap);
-    for row in 0..len {
-        rows.push(row.checked_div(run).unwrap_or(0).saturating_add(1))?;
+// A column in which each number from 1 on stands `run` times.
+fn in_runs(run: u32) -> [PlainKey; 66] {
+    let mut rows = [PlainKey::Account(0); 66];
+    for (number, row) in (0..66u32).zip(rows.iter_mut()) {
+        *row = PlainKey::Account(number.checked_div(run).unwrap_or(0).saturating_add(1));
     }
-    Ok(rows)
+    rows
 }
 
-pub fn tried(heap: Global) -> Result<Tally, AllocError> {
+fn over(heap: Global, tally: &mut Tally, rows: &[PlainKey]) {
+    tally.question(
+        heap,
+        &Question {
+            kind: Kind::Accounts,
+            rows,
+            asks: &sought(),
+        },
+    );
+}
+
+pub fn tried(heap: Global) -> Tally {
     let mut tally = Tally::new();
-    for len in 0..66 {
-        for run in [1, 2, 3, 7, 66] {
-            let rows = in_runs(heap, len, run)?;
-            over(heap, &mut tally, rows.as_slice())?;
+    for run in [1, 2, 3, 7, 66] {
+        let rows = in_runs(run);
+        for len in 0..67 {
+            over(heap, &mut tally, front(&rows, len));
         }
     }
-    over(heap, &mut tally, &[0])?;
-    over(heap, &mut tally, &[u32::MAX])?;
-    over(heap, &mut tally, &[0, 0, u32::MAX, u32::MAX])?;
-    over(heap, &mut tally, &[10, 20, 20, 30, 40, 50, 50, 50, 60])?;
-    Ok(tally)
+    let ends = [
+        PlainKey::Account(0),
+        PlainKey::Account(0),
+        PlainKey::Account(u32::MAX),
+        PlainKey::Account(u32::MAX),
+    ];
+    for len in 0..5 {
+        over(heap, &mut tally, front(&ends, len));
+    }
+    tally
 }

@@ -2,9 +2,8 @@
 use crate::question::Ask;
 use crate::question::Kind;
 use crate::question::PlainKey;
-use crate::question::PlainSide;
 use crate::question::Question;
-use crate::reader::text_of;
+use crate::question::after;
 use crate::table::Tally;
 use crate::written::sheet_of;
 use std::alloc::AllocError;
@@ -53,8 +52,7 @@ fn asks_of(heap: Global, shape: Shape) -> Result<Vec<Ask>, AllocError> {
         asks.push(Ask::Strike(strike.saturating_mul(11)))?;
     }
     for place in 0..shape.places {
-        let key = rising(shape.kind, place.saturating_mul(30));
-        asks.push(Ask::Place(PlainSide::After, key))?;
+        asks.push(after(rising(shape.kind, place.saturating_mul(30))))?;
     }
     Ok(asks)
 }
@@ -68,13 +66,11 @@ fn shaped(heap: Global, tally: &mut Tally, shape: Shape, bytes: usize) -> Result
         rows: rows.as_slice(),
         asks: asks.as_slice(),
     };
-    let sheet = sheet_of(heap, &question)?;
-    tally.note(sheet.len() == bytes);
+    tally.note(sheet_of(heap, &question)?.len() == bytes);
     if bytes > 65_536 {
-        tally.sheet(heap, sheet.as_slice(), "X 12\n");
+        tally.by_hand(heap, &question, "X 12\n");
     } else {
-        let expected = text_of(heap, &question)?;
-        tally.sheet(heap, sheet.as_slice(), expected.as_str());
+        tally.question(heap, &question);
     }
     Ok(())
 }

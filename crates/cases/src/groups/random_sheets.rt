@@ -10,6 +10,7 @@ use std::alloc::Global;
 // How far the account numbers of a column are spread; the next above, too, are sought.
 const SPREADS: [u32; 4] = [2, 12, 250, u32::MAX];
 
+// One sheet, with up to `calls` calls; one column in twenty is left as it was drawn.
 fn sheet(
     heap: Global,
     tally: &mut Tally,
@@ -18,14 +19,10 @@ fn sheet(
     calls: u32,
 ) -> Result<(), AllocError> {
     let spread = SPREADS.get(random.below(4) as usize).copied().unwrap_or(2);
-    let len = random.below(201);
-    let keys = random.keys(heap, kind, spread, len)?;
+    let keys = random.keys(heap, kind, spread)?;
     let rows = sorted(heap, keys.as_slice())?;
+    let asks = random.asks(heap, kind, spread.saturating_add(2), calls)?;
     let in_order = random.below(20) != 0;
-    let mut asks = Vec::new(heap);
-    for _ in 0..random.below(calls.saturating_add(1)) {
-        asks.push(random.ask(kind, spread.saturating_add(2), len))?;
-    }
     let question = Question {
         kind,
         rows: if in_order {
@@ -35,7 +32,8 @@ fn sheet(
         },
         asks: asks.as_slice(),
     };
-    tally.question(heap, &question)
+    tally.question(heap, &question);
+    Ok(())
 }
 
 // So many sheets, each with up to `calls` calls.

@@ -2,172 +2,178 @@
 use crate::question::Ask;
 use crate::question::Kind;
 use crate::question::PlainKey;
-use crate::question::PlainSide;
 use crate::question::Question;
-use crate::question::accounts;
+use crate::question::after;
+use crate::question::at;
 use crate::table::Tally;
-use std::alloc::AllocError;
 use std::alloc::Global;
 
-fn at(number: u32) -> Ask {
-    Ask::Place(PlainSide::At, PlainKey::Account(number))
-}
+const NINE: [PlainKey; 9] = [
+    PlainKey::Account(10),
+    PlainKey::Account(20),
+    PlainKey::Account(20),
+    PlainKey::Account(30),
+    PlainKey::Account(40),
+    PlainKey::Account(50),
+    PlainKey::Account(50),
+    PlainKey::Account(50),
+    PlainKey::Account(60),
+];
 
-fn after(number: u32) -> Ask {
-    Ask::Place(PlainSide::After, PlainKey::Account(number))
-}
+const FOUR: [PlainKey; 4] = [
+    PlainKey::Account(10),
+    PlainKey::Account(20),
+    PlainKey::Account(30),
+    PlainKey::Account(40),
+];
 
-fn by_hand(
+const LAST: PlainKey = PlainKey::Account(u32::MAX);
+
+fn by_hand<'a>(
     heap: Global,
     tally: &mut Tally,
-    rows: &[u32],
-    asks: &[Ask],
+    rows: &'a [PlainKey],
+    asks: &'a [Ask],
     expected: &str,
-) -> Result<(), AllocError> {
-    let rows = accounts(heap, rows)?;
+) {
     let question = Question {
         kind: Kind::Accounts,
-        rows: rows.as_slice(),
+        rows,
         asks,
     };
-    tally.by_hand(heap, &question, expected)
-}
-
-// The account numbers from 1 on.
-fn counted(heap: Global, len: u32) -> Result<Vec<u32>, AllocError> {
-    let mut rows = Vec::new(heap);
-    for row in 0..len {
-        rows.push(row.saturating_add(1))?;
-    }
-    Ok(rows)
-}
-
-// 64 of 70 rows are struck; what follows is declined or accepted by the rules for a full list.
-fn full(heap: Global, tally: &mut Tally) -> Result<(), AllocError> {
-    let rows = counted(heap, 70)?;
-    let mut asks = Vec::new(heap);
-    let mut expected = String::new(heap);
-    for row in 0..64 {
-        asks.push(Ask::Strike(row))?;
-        expected.push_str("S 0\n")?;
-    }
-    asks.extend_from_slice(&[Ask::Strike(64), Ask::Strike(0), Ask::Strike(70)])?;
-    expected.push_str("S 8\nS 7\nS 6\n")?;
-    asks.extend_from_slice(&[at(66), Ask::Restore(63), Ask::Strike(64), Ask::Strike(65)])?;
-    expected.push_str("Q 0 1 6\nR 0\nS 0\nS 8\n")?;
-    asks.extend_from_slice(&[Ask::Restore(63), Ask::Restore(70), after(70)])?;
-    expected.push_str("R 7\nR 6\nQ 0 6 6\n")?;
-    by_hand(
-        heap,
-        tally,
-        rows.as_slice(),
-        asks.as_slice(),
-        expected.as_str(),
-    )
-}
-
-// Strikes 70 rows in steps of `stride`, restores them again, and asks for some places after each.
-fn in_steps(heap: Global, tally: &mut Tally, stride: u32) -> Result<(), AllocError> {
-    let numbers = counted(heap, 70)?;
-    let rows = accounts(heap, numbers.as_slice())?;
-    let mut asks = Vec::new(heap);
-    for step in 0..140u32 {
-        let row = step.saturating_mul(stride) % 71;
-        asks.push(if step < 70 {
-            Ask::Strike(row)
-        } else {
-            Ask::Restore(row)
-        })?;
-        for number in [0, 1, 7, 35, 64, 65, 70, 71] {
-            asks.push(at(number))?;
-            asks.push(after(number))?;
-        }
-    }
-    let question = Question {
-        kind: Kind::Accounts,
-        rows: rows.as_slice(),
-        asks: asks.as_slice(),
-    };
-    tally.question(heap, &question)
+    tally.by_hand(heap, &question, expected);
 }
 
 // Twice the same, and past the end.
-fn declined(heap: Global, tally: &mut Tally) -> Result<(), AllocError> {
-    let column = [10, 20, 20, 30, 40, 50, 50, 50, 60];
-    let asks = [
+fn declined(heap: Global, tally: &mut Tally) {
+    let places = [
         Ask::Strike(1),
         Ask::Strike(1),
-        at(30),
-        after(50),
+        at(PlainKey::Account(30)),
+        after(PlainKey::Account(50)),
         Ask::Restore(4),
     ];
     by_hand(
         heap,
         tally,
-        &column,
-        &asks,
+        &NINE,
+        &places,
         "S 0\nS 7\nQ 0 2 3\nQ 0 7 3\nR 7\n",
-    )?;
-    let twice = [
-        Ask::Strike(8),
-        Ask::Restore(8),
-        Ask::Restore(8),
+    );
+    let twice = [Ask::Strike(8), Ask::Restore(8), Ask::Restore(8)];
+    by_hand(heap, tally, &NINE, &twice, "S 0\nR 0\nR 7\n");
+    let past = [
         Ask::Strike(9),
         Ask::Restore(9),
-    ];
-    by_hand(heap, tally, &column, &twice, "S 0\nR 0\nR 7\nS 6\nR 6\n")?;
-    let far = [
         Ask::Strike(u32::MAX),
         Ask::Restore(u32::MAX),
-        Ask::Restore(0),
     ];
-    by_hand(heap, tally, &column, &far, "S 6\nR 6\nR 7\n")?;
-    let none = [Ask::Strike(0), Ask::Restore(0), at(0), after(u32::MAX)];
-    by_hand(heap, tally, &[], &none, "S 6\nR 6\nQ 0 0 0\nQ 0 0 0\n")
+    by_hand(heap, tally, &NINE, &past, "S 6\nR 6\nS 6\nR 6\n");
+    let none = [Ask::Strike(0), Ask::Restore(0), at(LAST), after(LAST)];
+    by_hand(heap, tally, &[], &none, "S 6\nR 6\nQ 0 0 0\nQ 0 0 0\n");
 }
 
 // Row numbers are those of the column, however many rows are struck.
-fn not_renumbered(heap: Global, tally: &mut Tally) -> Result<(), AllocError> {
-    let column = [10, 20, 30, 40];
-    let asks = [
+fn not_renumbered(heap: Global, tally: &mut Tally) {
+    let two = [
         Ask::Strike(1),
         Ask::Strike(2),
-        at(40),
-        after(40),
+        at(PlainKey::Account(40)),
+        after(PlainKey::Account(40)),
         Ask::Restore(1),
-        at(30),
+        at(PlainKey::Account(30)),
     ];
     by_hand(
         heap,
         tally,
-        &column,
-        &asks,
+        &FOUR,
+        &two,
         "S 0\nS 0\nQ 0 1 2\nQ 0 2 2\nR 0\nQ 0 2 2\n",
-    )?;
+    );
     let all = [
         Ask::Strike(3),
         Ask::Strike(0),
         Ask::Strike(2),
         Ask::Strike(1),
-        after(u32::MAX),
-        at(25),
+        after(LAST),
     ];
-    by_hand(
-        heap,
-        tally,
-        &column,
-        &all,
-        "S 0\nS 0\nS 0\nS 0\nQ 0 0 2\nQ 0 0 2\n",
-    )
+    by_hand(heap, tally, &FOUR, &all, "S 0\nS 0\nS 0\nS 0\nQ 0 0 2\n");
 }
 
-pub fn tried(heap: Global) -> Result<Tally, AllocError> {
-    let mut tally = Tally::new();
-    declined(heap, &mut tally)?;
-    not_renumbered(heap, &mut tally)?;
-    full(heap, &mut tally)?;
-    for stride in 1..71 {
-        in_steps(heap, &mut tally, stride)?;
+// The account numbers from 1 to 70.
+fn seventy() -> [PlainKey; 70] {
+    let mut rows = [LAST; 70];
+    for (number, row) in (1..71u32).zip(rows.iter_mut()) {
+        *row = PlainKey::Account(number);
     }
-    Ok(tally)
+    rows
+}
+
+// Of 64 strikes on 70 rows each is accepted; what follows is declined or accepted as on a full list.
+fn full(heap: Global, tally: &mut Tally) {
+    let then = [
+        Ask::Strike(64),
+        Ask::Strike(0),
+        Ask::Strike(70),
+        at(PlainKey::Account(66)),
+        Ask::Restore(63),
+        Ask::Strike(64),
+        Ask::Strike(65),
+        Ask::Restore(63),
+        Ask::Restore(70),
+        after(PlainKey::Account(70)),
+    ];
+    let mut asks = [Ask::Strike(0); 74];
+    for (row, ask) in (0..64u32).zip(asks.iter_mut()) {
+        *ask = Ask::Strike(row);
+    }
+    for (ask, next) in asks.iter_mut().skip(64).zip(&then) {
+        *ask = *next;
+    }
+    let expected =
+        "S 0\nS 0\nS 0\nS 0\nS 0\nS 0\nS 0\nS 0\nS 0\nS 0\nS 0\nS 0\nS 0\nS 0\nS 0\nS 0\n\
+                    S 0\nS 0\nS 0\nS 0\nS 0\nS 0\nS 0\nS 0\nS 0\nS 0\nS 0\nS 0\nS 0\nS 0\nS 0\nS 0\n\
+                    S 0\nS 0\nS 0\nS 0\nS 0\nS 0\nS 0\nS 0\nS 0\nS 0\nS 0\nS 0\nS 0\nS 0\nS 0\nS 0\n\
+                    S 0\nS 0\nS 0\nS 0\nS 0\nS 0\nS 0\nS 0\nS 0\nS 0\nS 0\nS 0\nS 0\nS 0\nS 0\nS 0\n\
+                    S 8\nS 7\nS 6\nQ 0 1 6\nR 0\nS 0\nS 8\nR 7\nR 6\nQ 0 6 6\n";
+    by_hand(heap, tally, &seventy(), &asks, expected);
+}
+
+// Call `number` of those that strike 70 rows in steps of `stride` and restore them, with a place after each.
+fn step(number: u32, stride: u32) -> Ask {
+    let row = (number / 2).saturating_mul(stride) % 71;
+    let key = PlainKey::Account(number.saturating_mul(29) % 72);
+    match number % 4 {
+        1 => at(key),
+        3 => after(key),
+        _ if number < 140 => Ask::Strike(row),
+        _ => Ask::Restore(row),
+    }
+}
+
+// The calls above, held against the reader.
+fn in_steps(heap: Global, tally: &mut Tally, stride: u32) {
+    let mut asks = [at(LAST); 280];
+    for (number, ask) in (0..280u32).zip(asks.iter_mut()) {
+        *ask = step(number, stride);
+    }
+    tally.question(
+        heap,
+        &Question {
+            kind: Kind::Accounts,
+            rows: &seventy(),
+            asks: &asks,
+        },
+    );
+}
+
+pub fn tried(heap: Global) -> Tally {
+    let mut tally = Tally::new();
+    declined(heap, &mut tally);
+    not_renumbered(heap, &mut tally);
+    full(heap, &mut tally);
+    for stride in 1..71 {
+        in_steps(heap, &mut tally, stride);
+    }
+    tally
 }
