@@ -21,55 +21,47 @@ use groups::out_of_order;
 use groups::random_sheets;
 use groups::strikes;
 use question::Kind;
+use std::alloc::Global;
 use std::error::AnyError;
 use table::Tally;
 
-// Sheets that are built for one rule each.
-fn built(rt: &LibcRuntime, all: &mut Tally) -> Result<(), AnyError> {
-    let heap = rt.alloc();
-    all.group(
-        rt,
-        "every key over few rows and equal rows",
-        every_key::tried(heap),
-    )?;
-    all.group(
-        rt,
-        "labels that differ only in case",
-        letter_case::tried(heap)?,
-    )?;
-    all.group(rt, "strikes and restores", strikes::tried(heap))?;
-    all.group(
-        rt,
-        "columns out of order, sheets without calls",
-        out_of_order::tried(heap),
-    )?;
-    all.group(rt, "malformed sheets by hand", malformed::tried(heap))?;
-    all.group(rt, "every tag, letter and length", every_byte::tried(heap))?;
-    all.group(rt, "good sheets cut at every length", cuts::tried(heap)?)?;
-    all.group(
-        rt,
-        "sheets of 65,536 and 65,537 bytes",
-        longest::tried(heap)?,
-    )?;
-    Ok(())
-}
-
-// Sheets that are drawn at random.
-fn drawn(rt: &LibcRuntime, all: &mut Tally) -> Result<(), AnyError> {
-    let heap = rt.alloc();
-    let accounts = random_sheets::tried(heap, Kind::Accounts, 2000, 60)?;
-    all.group(rt, "random sheets of accounts", accounts)?;
-    let labels = random_sheets::tried(heap, Kind::Labels, 2000, 60)?;
-    all.group(rt, "random sheets of labels", labels)?;
-    let long = random_sheets::tried(heap, Kind::Accounts, 200, 600)?;
-    all.group(rt, "random sheets with many calls", long)?;
-    Ok(())
+// Sheets that are built for one rule each, and sheets that are drawn.
+fn groups_of(heap: Global) -> [(&'static str, Tally); 11] {
+    [
+        (
+            "every key over few rows and equal rows",
+            every_key::tried(heap),
+        ),
+        ("labels that differ only in case", letter_case::tried(heap)),
+        ("strikes and restores", strikes::tried(heap)),
+        (
+            "columns out of order, sheets without calls",
+            out_of_order::tried(heap),
+        ),
+        ("malformed sheets by hand", malformed::tried(heap)),
+        ("every byte changed, every length", every_byte::tried(heap)),
+        ("good sheets cut at every length", cuts::tried(heap)),
+        ("sheets of 65,536 and 65,537 bytes", longest::tried(heap)),
+        (
+            "random sheets of accounts",
+            random_sheets::tried(heap, Kind::Accounts, 2000, 60),
+        ),
+        (
+            "random sheets of labels",
+            random_sheets::tried(heap, Kind::Labels, 2000, 60),
+        ),
+        (
+            "random sheets with many calls",
+            random_sheets::tried(heap, Kind::Accounts, 200, 600),
+        ),
+    ]
 }
 
 fn run(rt: &LibcRuntime) -> Result<(), AnyError> {
     let mut all = Tally::new();
-    built(rt, &mut all)?;
-    drawn(rt, &mut all)?;
+    for (name, found) in groups_of(rt.alloc()) {
+        all.group(rt, name, found)?;
+    }
     all.total(rt)?;
     Ok(())
 }

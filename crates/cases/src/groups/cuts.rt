@@ -6,12 +6,12 @@ use crate::question::Question;
 use crate::question::after;
 use crate::question::at;
 use crate::question::front;
-use crate::reader::text_of;
 use crate::table::Tally;
 use crate::written::sheet_of;
 use std::alloc::AllocError;
 use std::alloc::Global;
 
+// Cuts a sheet between its calls and within each.
 fn every_cut(heap: Global, tally: &mut Tally, whole: &Question<'_>) -> Result<(), AllocError> {
     let sheet = sheet_of(heap, whole)?;
     let mut from = 0usize;
@@ -25,21 +25,14 @@ fn every_cut(heap: Global, tally: &mut Tally, whole: &Question<'_>) -> Result<()
         for cut in from..end {
             tally.sheet(heap, front(sheet.as_slice(), cut), "X 12\n");
         }
-        let expected = text_of(heap, &short)?;
-        tally.sheet(heap, front(sheet.as_slice(), end), expected.as_str());
+        tally.question(heap, &short);
         from = end.saturating_add(1);
     }
     Ok(())
 }
 
 // A sheet with calls of every kind.
-fn cut(
-    heap: Global,
-    tally: &mut Tally,
-    kind: Kind,
-    rows: &[PlainKey],
-    key: PlainKey,
-) -> Result<(), AllocError> {
+fn cut(heap: Global, tally: &mut Tally, kind: Kind, rows: &[PlainKey], key: PlainKey) {
     let asks = [
         Ask::Strike(1),
         at(key),
@@ -53,10 +46,12 @@ fn cut(
         rows,
         asks: &asks,
     };
-    every_cut(heap, tally, &whole)
+    if every_cut(heap, tally, &whole).is_err() {
+        tally.note(false);
+    }
 }
 
-pub fn tried(heap: Global) -> Result<Tally, AllocError> {
+pub fn tried(heap: Global) -> Tally {
     let mut tally = Tally::new();
     let [small, large] = [PlainKey::Account(10), PlainKey::Account(20)];
     cut(
@@ -65,13 +60,13 @@ pub fn tried(heap: Global) -> Result<Tally, AllocError> {
         Kind::Accounts,
         &[small, large, large],
         large,
-    )?;
-    cut(heap, &mut tally, Kind::Accounts, &[large, small], large)?;
-    cut(heap, &mut tally, Kind::Accounts, &[], small)?;
+    );
+    cut(heap, &mut tally, Kind::Accounts, &[large, small], large);
+    cut(heap, &mut tally, Kind::Accounts, &[], small);
     let [apple, pear] = [
         PlainKey::Label(*b"apple           "),
         PlainKey::Label(*b"PEAR            "),
     ];
-    cut(heap, &mut tally, Kind::Labels, &[apple, pear, pear], pear)?;
-    Ok(tally)
+    cut(heap, &mut tally, Kind::Labels, &[apple, pear, pear], pear);
+    tally
 }

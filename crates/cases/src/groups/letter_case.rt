@@ -129,12 +129,14 @@ fn worked_by_hand(heap: Global, tally: &mut Tally) {
     );
 }
 
-pub fn tried(heap: Global) -> Result<Tally, AllocError> {
+pub fn tried(heap: Global) -> Tally {
     let mut tally = Tally::new();
     worked_by_hand(heap, &mut tally);
     lettered_accounts(heap, &mut tally);
     for place in 0..16 {
-        every_byte_at(heap, &mut tally, place)?;
+        if every_byte_at(heap, &mut tally, place).is_err() {
+            tally.note(false);
+        }
     }
-    Ok(tally)
+    tally
 }

@@ -75,42 +75,26 @@ fn shaped(heap: Global, tally: &mut Tally, shape: Shape, bytes: usize) -> Result
     Ok(())
 }
 
-fn sizes(kind: Kind, rows: u32, strikes: u32, places: u32) -> Shape {
-    Shape {
+fn sized(heap: Global, tally: &mut Tally, kind: Kind, counts: [u32; 3], bytes: usize) {
+    let [rows, strikes, places] = counts;
+    let shape = Shape {
         kind,
         rows,
         strikes,
         places,
+    };
+    if shaped(heap, tally, shape, bytes).is_err() {
+        tally.note(false);
     }
 }
 
-pub fn tried(heap: Global) -> Result<Tally, AllocError> {
+pub fn tried(heap: Global) -> Tally {
     let mut tally = Tally::new();
-    shaped(
-        heap,
-        &mut tally,
-        sizes(Kind::Accounts, 16_000, 0, 191),
-        65_536,
-    )?;
-    shaped(
-        heap,
-        &mut tally,
-        sizes(Kind::Accounts, 16_382, 0, 0),
-        65_536,
-    )?;
-    shaped(heap, &mut tally, sizes(Kind::Labels, 4_000, 4, 75), 65_536)?;
-    shaped(
-        heap,
-        &mut tally,
-        sizes(Kind::Accounts, 16_000, 7, 185),
-        65_537,
-    )?;
-    shaped(
-        heap,
-        &mut tally,
-        sizes(Kind::Accounts, 16_377, 3, 0),
-        65_537,
-    )?;
-    shaped(heap, &mut tally, sizes(Kind::Labels, 4_000, 7, 74), 65_537)?;
-    Ok(tally)
+    sized(heap, &mut tally, Kind::Accounts, [16_000, 0, 191], 65_536);
+    sized(heap, &mut tally, Kind::Accounts, [16_382, 0, 0], 65_536);
+    sized(heap, &mut tally, Kind::Labels, [4_000, 4, 75], 65_536);
+    sized(heap, &mut tally, Kind::Accounts, [16_000, 7, 185], 65_537);
+    sized(heap, &mut tally, Kind::Accounts, [16_377, 3, 0], 65_537);
+    sized(heap, &mut tally, Kind::Labels, [4_000, 7, 74], 65_537);
+    tally
 }

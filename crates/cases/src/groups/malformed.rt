@@ -2,10 +2,8 @@
 use crate::table::Tally;
 use std::alloc::Global;
 
-const MALFORMED: &str = "X 12\n";
-
-// The directory is missing, or is none.
-const DIRECTORIES: [&str; 16] = [
+const SHEETS: [&str; 74] = [
+    // the directory is missing, or is none.
     "",
     "K\0\x04\0\0\0\x07",
     "T\0\0",
@@ -22,10 +20,7 @@ const DIRECTORIES: [&str; 16] = [
     "D\0\x02P\x01K\0\0",
     "D\0\x02P\x02K\0\0",
     "d\0\x02P\0K\0\0",
-];
-
-// The column is missing, comes twice, is no number of whole keys, or something else stands in its place.
-const COLUMNS: [&str; 22] = [
+    // the column is missing, comes twice, is no number of whole keys, or something else stands in its place.
     "D\0\x02P\0",
     "D\0\x02F\x02",
     "D\0\x02L\x02",
@@ -48,10 +43,7 @@ const COLUMNS: [&str; 22] = [
     "D\0\x02P\0t\0\0",
     "D\0\x02P\0X\0\0",
     "D\0\x02P\0\0\0\0",
-];
-
-// A call has a tag, a letter or a length that is not allowed.
-const CALLS: [&str; 22] = [
+    // a call has a tag, a letter or a length that is not allowed.
     "D\0\x02P\0K\0\0S\0\0",
     "D\0\x02P\0K\0\0S\0\x03\0\0\0",
     "D\0\x02P\0K\0\0S\0\x05\0\0\0\0\0",
@@ -74,10 +66,7 @@ const CALLS: [&str; 22] = [
     "D\0\x02P\0K\0\0s\0\x04\0\0\0\0",
     "D\0\x02P\0K\0\0q\0\x05a\0\0\0\0",
     "D\0\x02P\0K\0\0Z\0\0",
-];
-
-// A field runs past the end, or bytes are left that are no field; what came before is not tried.
-const ENDS: [&str; 14] = [
+    // a field runs past the end, or bytes are left that are no field; what came before is not tried.
     "D\0\x02P\0K",
     "D\0\x02P\0K\0",
     "D\0\x02P\0K\0\x04",
@@ -94,17 +83,10 @@ const ENDS: [&str; 14] = [
     "D\0\x02P\0K\0\0S\0\x04\0\0\0\0S\0\x03\0\0\0",
 ];
 
-fn all(heap: Global, tally: &mut Tally, sheets: &[&str]) {
-    for sheet in sheets {
-        tally.sheet(heap, sheet.as_bytes(), MALFORMED);
-    }
-}
-
 pub fn tried(heap: Global) -> Tally {
     let mut tally = Tally::new();
-    all(heap, &mut tally, &DIRECTORIES);
-    all(heap, &mut tally, &COLUMNS);
-    all(heap, &mut tally, &CALLS);
-    all(heap, &mut tally, &ENDS);
+    for sheet in &SHEETS {
+        tally.sheet(heap, sheet.as_bytes(), "X 12\n");
+    }
     tally
 }

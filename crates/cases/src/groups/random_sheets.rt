@@ -37,11 +37,13 @@ fn sheet(
 }
 
 // So many sheets, each with up to `calls` calls.
-pub fn tried(heap: Global, kind: Kind, sheets: u32, calls: u32) -> Result<Tally, AllocError> {
+pub fn tried(heap: Global, kind: Kind, sheets: u32, calls: u32) -> Tally {
     let mut tally = Tally::new();
     let mut random = Random::seeded(0x2545_F491_4F6C_DD1D);
     for _ in 0..sheets {
-        sheet(heap, &mut tally, &mut random, kind, calls)?;
+        if sheet(heap, &mut tally, &mut random, kind, calls).is_err() {
+            tally.note(false);
+        }
     }
-    Ok(tally)
+    tally
 }

@@ -109,8 +109,8 @@ fn seventy() -> [PlainKey; 70] {
     rows
 }
 
-// Of 64 strikes on 70 rows each is accepted; what follows is declined or accepted as on a full list.
-fn full(heap: Global, tally: &mut Tally) {
+// 64 strikes, and calls on the list that is full then.
+fn filling() -> [Ask; 74] {
     let then = [
         Ask::Strike(64),
         Ask::Strike(0),
@@ -124,19 +124,24 @@ fn full(heap: Global, tally: &mut Tally) {
         after(PlainKey::Account(70)),
     ];
     let mut asks = [Ask::Strike(0); 74];
-    for (row, ask) in (0..64u32).zip(asks.iter_mut()) {
-        *ask = Ask::Strike(row);
+    for (row, ask) in (0..74u32).zip(asks.iter_mut()) {
+        *ask = match then.get((row as usize).saturating_sub(64)) {
+            Some(next) if row >= 64 => *next,
+            _ => Ask::Strike(row),
+        };
     }
-    for (ask, next) in asks.iter_mut().skip(64).zip(&then) {
-        *ask = *next;
-    }
+    asks
+}
+
+// Each of 64 strikes is accepted; what follows is declined or accepted as on a full list.
+fn full(heap: Global, tally: &mut Tally) {
     let expected =
         "S 0\nS 0\nS 0\nS 0\nS 0\nS 0\nS 0\nS 0\nS 0\nS 0\nS 0\nS 0\nS 0\nS 0\nS 0\nS 0\n\
                     S 0\nS 0\nS 0\nS 0\nS 0\nS 0\nS 0\nS 0\nS 0\nS 0\nS 0\nS 0\nS 0\nS 0\nS 0\nS 0\n\
                     S 0\nS 0\nS 0\nS 0\nS 0\nS 0\nS 0\nS 0\nS 0\nS 0\nS 0\nS 0\nS 0\nS 0\nS 0\nS 0\n\
                     S 0\nS 0\nS 0\nS 0\nS 0\nS 0\nS 0\nS 0\nS 0\nS 0\nS 0\nS 0\nS 0\nS 0\nS 0\nS 0\n\
                     S 8\nS 7\nS 6\nQ 0 1 6\nR 0\nS 0\nS 8\nR 7\nR 6\nQ 0 6 6\n";
-    by_hand(heap, tally, &seventy(), &asks, expected);
+    by_hand(heap, tally, &seventy(), &filling(), expected);
 }
 
 // Call `number` of those that strike 70 rows in steps of `stride` and restore them, with a place after each.
