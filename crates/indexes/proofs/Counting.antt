@@ -13,7 +13,7 @@ use Rattle.keys.proofs.Orders.{laws}
 use Rattle.indexes.specs.declared.index.Side.{Side}
 use Rattle.indexes.specs.declared.index.Side.the-variants.{At, After}
 use Rattle.indexes.specs.Meaning.{count, passed, place-of, Ordered}
-use Rattle.indexes.specs.Search.{Sought, middle, one-more, halving, passed-at, sought, bits}
+use Rattle.indexes.specs.Seeking.{Sought, middle, one-more, halving, passed-at, sought, bits}
 use Rattle.indexes.proofs.Halving.{Cut, halving-up, halving-down, search-boundary, boundary-cut, rounds-le, under-bits}
 
 -- a list that a test cuts has as many that pass as stand before the cut

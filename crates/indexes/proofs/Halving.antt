@@ -1,4 +1,4 @@
--- The rounds of a search: how it goes on, where it ends, and how many rounds it can take.
+-- The rounds of halving: how they go on, where they end, and how many there can be.
 use mathlib.Core.Path.{_≡_, refl, sym, ap, subst, _∙_}
 use mathlib.Core.Bool.{Bool, true, false, cond}
 use mathlib.Core.Logic.{inl, inr}
@@ -10,7 +10,7 @@ use lib.Pow.{pow-mono}
 use Rattle.std.specs.shelf.Digits.{digitsOf}
 use Rattle.std.proofs.shelf.Digits.{number-lt, under-digitsOf, number-digitsOf, length-digitsOf-le}
 use Rattle.std.proofs.shelf.Tests.{cases-lt, cases-bool, cond-true, cond-false, lt-ltb, le-ltb, both-ways}
-use Rattle.indexes.specs.Search.{middle, one-more, halving, bits, Boundary}
+use Rattle.indexes.specs.Seeking.{middle, one-more, halving, bits, Boundary}
 
 -- every place below r passes, and every other place below n does not
 pub record Cut (pass : ℕ → Bool) (n r : ℕ) : Type 0 where

@@ -17,7 +17,7 @@ abbrev pub count : {K : Type 0} → (K → Bool) → List K → ℕ
 count p [] = 0
 count p (x ∷ xs) = cond (p x) 1 0 + count p xs
 
--- is a row passed by a search for the key? At: it comes before the key. After: the key does not come before it
+-- is a row passed when the key is sought? At: it comes before the key. After: the key does not come before it
 abbrev pub passed : {K : Type 0} → (K → K → Bool) → K → Side → K → Bool
 passed before key At row = before row key
 passed before key After row = not (before key row)

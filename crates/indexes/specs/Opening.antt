@@ -10,13 +10,13 @@ use Rattle.indexes.specs.declared.frozen.FrozenIndex.{FrozenIndex}
 use Rattle.indexes.specs.declared.decline.Decline.{Decline}
 use Rattle.indexes.specs.declared.decline.Decline.the-variants.{TooManyRows, OutOfOrder}
 use Rattle.indexes.specs.Meaning.{Meaning, Meant}
-use Rattle.indexes.specs.Search.{sought, bits}
+use Rattle.indexes.specs.Seeking.{sought, bits}
 
 -- the rows that a frozen index holds
 abbrev pub column-of : {K : Type 0} → FrozenIndex K → List K
 column-of x = now (x .rows)
 
--- what a bare column means: one node search over its rows
+-- what a bare column means: its comparisons are the rounds of halving its rows
 abbrev pub bare : {K : Type 0} → (K → K → Bool) → List K → Meaning K
 bare before rows = record {
   rows = rows;

@@ -11,7 +11,7 @@ use crate::Layout;
 use crate::MAX_ROWS;
 use crate::Side;
 use crate::node::bits_of;
-use crate::node::search;
+use crate::node::seek;
 use keys::Key;
 
 #[derive(Clone, Copy)]
@@ -87,6 +87,6 @@ pub impl<'a, K: Key> Index<K> for FrozenIndex<'a, K> as FrozenAsIndex {
     }
 
     fn place(&self, key: &K, side: Side) -> Counted<usize> {
-        search(self.rows, key, side)
+        seek(self.rows, key, side)
     }
 }

@@ -5,8 +5,8 @@
 // `ceiling`, `row` and `place` answer exactly by that meaning. Its ghost member `opened` is what an implementation
 // needs to answer at all; constructors and `open` establish it, and no safe code reaches an index without it.
 //
-// `FrozenIndex` is a sorted column that no longer changes, with its `Layout`: today the bare column, which is searched
-// by halving. `search` is that search: its place, its comparisons, and how many they can be are exact.
+// `FrozenIndex` is a sorted column that no longer changes, with its `Layout`: today the bare column, in which a place
+// is sought by halving. `seek` does that: its place, its comparisons, and how many they can be are exact.
 // `Decline` lists every reason for which a call of the whole library is declined, with its number.
 // `&I` is an index where `I` is.
 //
@@ -40,4 +40,4 @@ pub use layout::LayoutDebug;
 pub use layout::LayoutEq;
 pub use layout::LayoutPartialEq;
 pub use lent::LentAsIndex;
-pub use node::search;
+pub use node::seek;

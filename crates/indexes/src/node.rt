@@ -1,14 +1,14 @@
-// The node search: halving a range of keys in order, with its comparisons counted.
+// A place sought in one node: halving a range of keys in order, with its comparisons counted.
 ghost use mathlib.Core.Path.{_≡_};
 ghost use Prim.Native.Nat.{_≤_};
 ghost use lib.ListN.{length};
 ghost use Rattle.indexes.specs.Meaning.{passed, place-of, Ordered};
-ghost use Rattle.indexes.specs.Search.{sought, bits, Boundary, passed-at};
+ghost use Rattle.indexes.specs.Seeking.{sought, bits, Boundary, passed-at};
 use crate::Counted;
 use crate::Side;
 use keys::Key;
 
-// Does a search for the key on this side pass the row?
+// Is the row passed when the key is sought on this side?
 fn passes<K: Key>(row: &K, key: &K, side: Side) -> bool
     ensures { λ r. ⌜ r ≡ passed (K·Key .before) (now (key .entry)) side (now (row .entry)) ⌝ }
 {
@@ -27,7 +27,7 @@ pub(crate) fn bits_of(n: usize) -> u32
 
 // Halves the range that is left until nothing is, one comparison for each round. Where the keys are in order, the
 // answer is the number of keys passed; in any case a passed key stands before it and one not passed stands at it.
-pub fn search<K: Key>(keys: &[K], key: &K, side: Side) -> Counted<usize>
+pub fn seek<K: Key>(keys: &[K], key: &K, side: Side) -> Counted<usize>
     ensures place { λ r. ⌜ r .answer ≡ sought (K·Key .before) (now (keys .entry)) (now (key .entry)) side .place ⌝ }
     ensures comparisons { λ r. ⌜ r .comparisons ≡ sought (K·Key .before) (now (keys .entry)) (now (key .entry)) side .rounds ⌝ }
     ensures boundary { λ r. ⌜ Boundary (passed-at (K·Key .before) (now (keys .entry)) (now (key .entry)) side) (length (now (keys .entry))) (r .answer) ⌝ }

@@ -1,4 +1,4 @@
--- The node search, by its rounds. Assumes nothing.
+-- How a place is sought in a node, round by round. Assumes nothing.
 use mathlib.Core.Path.{_≡_}
 use mathlib.Core.Bool.{Bool, true, false, cond}
 use mathlib.Core.List.{List}
@@ -13,7 +13,7 @@ use Rattle.indexes.specs.Meaning.{passed}
 unfoldable pub bits : ℕ → ℕ
 bits n = length (digitsOf 2 n)
 
--- what a search comes to: its place, and one comparison a round
+-- what it comes to: a place, and one comparison a round
 pub record Sought : Type 0 where
   pub place : ℕ
   pub rounds : ℕ
@@ -24,7 +24,7 @@ middle lo hi = (lo + hi) / 2
 abbrev pub one-more : Sought → Sought
 one-more s = record { place = s .place; rounds = 1 + s .rounds }
 
--- the search over the places from lo to hi, of which there are at most as many as the first number;
+-- halving the places from lo to hi, of which there are at most as many as the first number;
 -- `pass` tells whether the row at a place is passed
 unfoldable pub halving : (ℕ → Bool) → ℕ → ℕ → ℕ → Sought
 halving pass zero lo hi = record { place = lo; rounds = 0 }
@@ -37,7 +37,7 @@ halving pass (suc f) lo hi =
 abbrev pub passed-at : {K : Type 0} → (K → K → Bool) → List K → K → Side → ℕ → Bool
 passed-at before rows key side i = passed before key side (getD rows i key)
 
--- the node search over all the rows
+-- the place of a key sought in all the rows
 abbrev pub sought : {K : Type 0} → (K → K → Bool) → List K → K → Side → Sought
 sought before rows key side = halving (passed-at before rows key side) (length rows) 0 (length rows)
 

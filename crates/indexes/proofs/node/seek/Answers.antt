@@ -3,10 +3,10 @@ use mathlib.Core.Path.{sym, ap, subst, _∙_}
 use native.Mathlib.Omega.{arith}
 use Prim.Native.Nat.{_≤_}
 use lib.ListN.{length}
-use Rattle.indexes.specs.Search.{Sought, bits, Boundary, passed-at}
+use Rattle.indexes.specs.Seeking.{Sought, bits, Boundary, passed-at}
 use Rattle.indexes.proofs.Halving.{bits-le, halving-end, search-boundary}
 use Rattle.indexes.proofs.Counting.{sought-rounds, sought-place, round-up, round-down}
-use Rattle.indexes.proofs.node.search.Needs as need
+use Rattle.indexes.proofs.node.seek.Needs as need
 
 pub add-comparisons : need.add-comparisons
 add-comparisons g c =
