@@ -7,7 +7,8 @@ use lib.Dec.{ltb}
 use lib.ListN.{length, getD}
 use Rattle.std.specs.shelf.Digits.{digitsOf}
 use Rattle.indexes.specs.declared.index.Side.{Side}
-use Rattle.indexes.specs.Meaning.{passed}
+use Rattle.indexes.specs.declared.index.Counted.{Counted}
+use Rattle.indexes.specs.Meaning.{passed, place-of, Ordered}
 
 -- how many binary digits a number has: none for 0
 unfoldable pub bits : ℕ → ℕ
@@ -46,3 +47,13 @@ pub record Boundary (pass : ℕ → Bool) (n r : ℕ) : Type 0 where
   pub within : r ≤ n
   pub passed-below : 0 < r → pass (r - 1) ≡ true
   pub not-at : r < n → pass r ≡ false
+
+-- what seeking a key in rows comes to: exactly the rounds above, and what follows of them
+pub record Seeks {K : Type 0} (before : K → K → Bool) (rows : List K) (key : K) (side : Side) (r : Counted ℕ) : Type 0 where
+  pub place : r .answer ≡ sought before rows key side .place
+  pub comparisons : r .comparisons ≡ sought before rows key side .rounds
+  -- whatever the rows, one that is passed stands before the place, and one that is not stands at it
+  pub boundary : Boundary (passed-at before rows key side) (length rows) (r .answer)
+  -- rows in order: the place is the count of all that are passed
+  pub counted : Ordered before rows → r .answer ≡ place-of before rows key side
+  pub few : r .comparisons ≤ bits (length rows)

@@ -1,9 +1,7 @@
 // A place sought in one node: halving a range of keys in order, with its comparisons counted.
 ghost use mathlib.Core.Path.{_≡_};
-ghost use Prim.Native.Nat.{_≤_};
-ghost use lib.ListN.{length};
-ghost use Rattle.indexes.specs.Meaning.{passed, place-of, Ordered};
-ghost use Rattle.indexes.specs.Seeking.{sought, bits, Boundary, passed-at};
+ghost use Rattle.indexes.specs.Meaning.{passed};
+ghost use Rattle.indexes.specs.Seeking.{bits, Seeks};
 use crate::Counted;
 use crate::Side;
 use keys::Key;
@@ -28,11 +26,7 @@ pub(crate) fn bits_of(n: usize) -> u32
 // Halves the range that is left until nothing is, one comparison for each round. Where the keys are in order, the
 // answer is the number of keys passed; in any case a passed key stands before it and one not passed stands at it.
 pub fn seek<K: Key>(keys: &[K], key: &K, side: Side) -> Counted<usize>
-    ensures place { λ r. ⌜ r .answer ≡ sought (K·Key .before) (now (keys .entry)) (now (key .entry)) side .place ⌝ }
-    ensures comparisons { λ r. ⌜ r .comparisons ≡ sought (K·Key .before) (now (keys .entry)) (now (key .entry)) side .rounds ⌝ }
-    ensures boundary { λ r. ⌜ Boundary (passed-at (K·Key .before) (now (keys .entry)) (now (key .entry)) side) (length (now (keys .entry))) (r .answer) ⌝ }
-    ensures counted { λ r. ⌜ (Ordered (K·Key .before) (now (keys .entry)) → r .answer ≡ place-of (K·Key .before) (now (keys .entry)) (now (key .entry)) side) ⌝ }
-    ensures few { λ r. ⌜ r .comparisons ≤ bits (length (now (keys .entry))) ⌝ }
+    ensures { λ r. ⌜ Seeks (K·Key .before) (now (keys .entry)) (now (key .entry)) side r ⌝ }
 {
     let mut lo = 0;
     let mut hi = keys.len();

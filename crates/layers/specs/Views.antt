@@ -2,10 +2,12 @@
 use mathlib.Core.List.{List}
 use Prim.Native.Nat.{ℕ}
 use lib.ListN.{length, take}
+use Rattle.std.specs.declared.result.Result.{Result}
+use Rattle.indexes.specs.declared.decline.Decline.{Decline}
 use Rattle.indexes.specs.Meaning.{Meaning}
 use Rattle.layers.specs.declared.table.StruckRows.{StruckRows}
 use Rattle.layers.specs.declared.strike_list.StrikeList.{StrikeList}
-use Rattle.layers.specs.Table.{listed, has, Within}
+use Rattle.layers.specs.Table.{listed, has, Within, strike-answer, restore-answer}
 use Rattle.layers.specs.Sight.{hidden}
 
 -- the numbers in a table
@@ -28,3 +30,10 @@ rows-below means s = length (means (s .below) .rows)
 pub record Kept {K I : Type 0} (opened : I → Type 0) (means : I → Meaning K) (s : StrikeList K I) : Type 0 where
   pub opens : opened (s .below)
   pub within : Within (out-of s) (rows-below means s)
+
+-- what striking or restoring a row on a strike list answers
+abbrev pub strike-on : {K I : Type 0} → (I → Meaning K) → StrikeList K I → ℕ → Result Unit Decline
+strike-on means s row = strike-answer (rows-below means s) (out-of s) row
+
+abbrev pub restore-on : {K I : Type 0} → (I → Meaning K) → StrikeList K I → ℕ → Result Unit Decline
+restore-on means s row = restore-answer (rows-below means s) (out-of s) row

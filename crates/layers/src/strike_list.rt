@@ -1,8 +1,8 @@
 // A strike list above an index: rows of that index are put out of sight and back.
 ghost use mathlib.Core.Path.{_≡_};
 ghost use mathlib.Core.List.{[]};
-ghost use Rattle.layers.specs.Table.{listed, number-answer, strike-answer, restore-answer, with-number, without-number};
-ghost use Rattle.layers.specs.Views.{out-of, list-means, rows-below, Kept};
+ghost use Rattle.layers.specs.Table.{listed, number-answer, with-number, without-number};
+ghost use Rattle.layers.specs.Views.{out-of, list-means, rows-below, strike-on, restore-on, Kept};
 use crate::table::StruckRow;
 use crate::table::StruckRows;
 use indexes::Counted;
@@ -64,7 +64,7 @@ impl<K: Key, I: Index<K>> StrikeList<K, I> {
     // Puts a row of the index below out of sight.
     pub fn strike(&mut self, row: u32) -> Result<(), Decline>
         requires { ⌜ Kept (I·Index .opened) (I·Index .means) (now self) ⌝ }
-        ensures answers { λ r. ⌜ r ≡ strike-answer (rows-below (I·Index .means) (now (self .entry))) (out-of (now (self .entry))) row ⌝ }
+        ensures answers { λ r. ⌜ r ≡ strike-on (I·Index .means) (now (self .entry)) row ⌝ }
         ensures holds { λ r. ⌜ out-of (now (self .exit)) ≡ with-number r (out-of (now (self .entry))) row ⌝ }
         ensures below { λ _. ⌜ now (self .exit) .below ≡ now (self .entry) .below ⌝ }
         ensures opened { λ _. ⌜ Kept (I·Index .opened) (I·Index .means) (now (self .exit)) ⌝ }
@@ -76,7 +76,7 @@ impl<K: Key, I: Index<K>> StrikeList<K, I> {
     // Puts a struck row back in sight.
     pub fn restore(&mut self, row: u32) -> Result<(), Decline>
         requires { ⌜ Kept (I·Index .opened) (I·Index .means) (now self) ⌝ }
-        ensures answers { λ r. ⌜ r ≡ restore-answer (rows-below (I·Index .means) (now (self .entry))) (out-of (now (self .entry))) row ⌝ }
+        ensures answers { λ r. ⌜ r ≡ restore-on (I·Index .means) (now (self .entry)) row ⌝ }
         ensures holds { λ r. ⌜ out-of (now (self .exit)) ≡ without-number r (out-of (now (self .entry))) row ⌝ }
         ensures below { λ _. ⌜ now (self .exit) .below ≡ now (self .entry) .below ⌝ }
         ensures opened { λ _. ⌜ Kept (I·Index .opened) (I·Index .means) (now (self .exit)) ⌝ }

@@ -11,7 +11,13 @@ use Rattle.sheets.specs.declared.field.Kind.{Kind}
 use Rattle.sheets.specs.declared.field.Kind.the-variants.{Directory, Accounts, Labels, Strike, Restore, Place}
 use Rattle.sheets.specs.declared.sheet.Sheet.{Sheet}
 use Rattle.sheets.specs.Fields.{letter, full, level, bare, at, after, Piece}
+use Rattle.std.specs.Of.Vec.{vec-items}
+use Rattle.std.specs.Vec.{made}
+use Rattle.std.specs.declared.result.Result.{Result}
+use Rattle.std.specs.declared.vec.Vec.{Vec}
+use Rattle.sheets.specs.declared.request.Request.{Request}
 use Rattle.sheets.specs.Grammar.{Said, viewed}
+use Rattle.sheets.specs.Said.{requests-of}
 
 -- a directory: F or L and a node size, or P and 0
 pub data Chooses : Kind → List ℕ → Type 0 where
@@ -76,3 +82,8 @@ listed s = s .directory ∷ s .column ∷ s .calls
 abbrev pub Written-as : List ℕ → Option Sheet → Type 0
 Written-as bs None = (fs : List Piece) → Spells bs fs → ⊥
 Written-as bs (Some r) = (s : Said) × (viewed r ≡ Some s) × Spelled bs (listed s)
+
+-- what fields ask, once it is taken from them: each that is a call over keys of this width asks one thing
+pub record Asks {K E : Type 0} {A : Type 0} (w : ℕ) (spelled : List ℕ → K) (calls : List Piece) (r : Result (Vec (Request K) A) E) : Type 0 where
+  pub asks : made r (λ v. vec-items v ≡ requests-of w spelled calls)
+  pub one-each : Calls-over w calls → made r (λ v. length (vec-items v) ≡ length calls)

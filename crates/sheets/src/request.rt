@@ -1,13 +1,10 @@
 // What a sheet may ask, with its row number or its key.
 ghost use mathlib.Core.Path.{_≡_};
-ghost use lib.ListN.{length};
-ghost use Rattle.std.specs.Of.Vec.{vec-items};
-ghost use Rattle.std.specs.Vec.{made};
 ghost use Rattle.std.specs.declared.option.Option.the-variants.{Some};
 ghost use Rattle.sheets.specs.Fields.{told};
 ghost use Rattle.sheets.specs.Grammar.{Said, viewed};
-ghost use Rattle.sheets.specs.Said.{request-of, requests-of, place-of};
-ghost use Rattle.sheets.specs.Written.{Calls-over};
+ghost use Rattle.sheets.specs.Said.{request-of, place-of};
+ghost use Rattle.sheets.specs.Written.{Asks};
 use crate::field::Field;
 use crate::key::SheetKey;
 use crate::sheet::Sheet;
@@ -52,8 +49,7 @@ impl<K: SheetKey> Request<K> {
 impl<'a> Sheet<'a> {
     // What the sheet asks, in its order; each of its calls, where they are over keys of this kind, asks one thing.
     pub fn requests<K: SheetKey>(&self, heap: Global) -> Result<Vec<Request<K>>, AllocError>
-        ensures asks { λ r. ⌜ ((s : Said) → viewed (now (self .entry)) ≡ Some s → made r (λ v. vec-items v ≡ requests-of (K·SheetKey .width) (K·SheetKey .spelled) (s .calls))) ⌝ }
-        ensures one_each { λ r. ⌜ ((s : Said) → viewed (now (self .entry)) ≡ Some s → Calls-over (K·SheetKey .width) (s .calls) → made r (λ v. length (vec-items v) ≡ length (s .calls))) ⌝ }
+        ensures { λ r. ⌜ ((s : Said) → viewed (now (self .entry)) ≡ Some s → Asks (K·SheetKey .width) (K·SheetKey .spelled) (s .calls) r) ⌝ }
     {
         let mut requests = Vec::new(heap);
         let mut reader = self.calls;

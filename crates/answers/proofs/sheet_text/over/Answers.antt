@@ -19,5 +19,5 @@ returns g c s says =
     (opens .answers)
     (ap (λ x. bare before (column-of x)) (c .new .ensures .below) ∙ ap (bare before) (opens .holds))
     (ap has (c .new .ensures .none) ∙ fun-ext (λ r. refl))
-    (c .as-slice-2 .ensures .value ∙ c .in-Continue-requests .ensures tt .asks s says))
+    (c .as-slice-2 .ensures .value ∙ c .in-Continue-requests .ensures tt s says .asks))
     (c .run .ensures)

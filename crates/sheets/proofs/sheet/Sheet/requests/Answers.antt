@@ -33,8 +33,8 @@ loop-field-again g c =
     (sym (append-nil (vec-items (c .loop-field .requests))) ∙ ap (λ o. vec-items (c .loop-field .requests) ++ put-first o []) (c .in-rest-of .ensures tt))
 
 pub returns : need.returns
-returns g c =
+returns g c s says =
     let w = g .K·SheetKey .width in
     let spelled = g .K·SheetKey .spelled in
-    let asks = asked-all w spelled (c .args .self .now) (vec-items (c .loop-field .requests)) (state (c .loop-field .reader)) (c .loop-field .inv) (stayed (state (c .loop-field .reader)) (c .in-rest .ensures tt .field)) in
-    record { asks = asks; one-each = λ s says all. ap length (asks s says) ∙ asks-each w spelled (s .calls) all }
+    let asks = asked-all w spelled (c .args .self .now) (vec-items (c .loop-field .requests)) (state (c .loop-field .reader)) (c .loop-field .inv) (stayed (state (c .loop-field .reader)) (c .in-rest .ensures tt .field)) s says in
+    record { asks = asks; one-each = λ all. ap length asks ∙ asks-each w spelled (s .calls) all }
