@@ -7,6 +7,9 @@
 // It promises the text that specs/Printed.antt defines over the sheet's bytes, byte for byte, for every input; so a
 // program that calls it has only to read bytes and write bytes. Want of memory alone is left open.
 // It stands on reading (crate `sheets`), frozen columns (`indexes`), strike lists (`layers`) and keys (`keys`).
+
+#![tactic(auto)]
+
 mod line;
 mod refusal;
 mod run;

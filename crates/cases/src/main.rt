@@ -3,6 +3,9 @@
 // `question` has a question in plain values, `written` its bytes, `reader` the answer that the rules give, `table` what
 // was found. Expected texts are worked by hand or come from the reader, never from the library. A case that differs
 // changes the table, and with it what the program is expected to print.
+
+#![tactic(auto)]
+
 mod groups;
 mod question;
 mod random;

@@ -10,6 +10,9 @@
 // places and comparisons of the descent that the rules define, which are the places that counting over all rows gives,
 // at no more comparisons than the ceiling.
 // It stands on the meaning of an index (crate `indexes`), the laws of shapes (`shapes`) and those of an order (`keys`).
+
+#![tactic(auto)]
+
 mod chunk;
 mod column;
 mod descent;

@@ -11,6 +11,9 @@
 // `&I` is an index where `I` is.
 //
 // It stands on the order of keys (crate `keys`) alone.
+
+#![tactic(auto)]
+
 mod decline;
 mod frozen;
 mod index;

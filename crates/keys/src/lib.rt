@@ -13,6 +13,8 @@
 // every kind stands in the contract of `equivalent` (`Laws` in specs/Order.antt).
 // Stands on the standard library alone.
 
+#![tactic(auto)]
+
 ghost use Rattle.std.specs.Prelude.{◌≡◌, Bool};
 ghost use Rattle.keys.specs.Order.{Lawful, equivalent_under, Laws};
 

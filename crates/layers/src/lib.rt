@@ -9,6 +9,9 @@
 // It promises, for every lawful key kind and every index below, ours or another's: each answer or decline exactly, the
 // struck numbers afterwards, that the index below is left alone, and that a declined call changes nothing.
 // It stands on the meaning of an index (crate `indexes`) and the laws of an order (crate `keys`).
+
+#![tactic(auto)]
+
 mod calls;
 mod reply;
 mod strike_list;

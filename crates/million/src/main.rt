@@ -4,6 +4,9 @@
 // is known without looking at a row (`expected_place`). A full and a level directory and the bare column are built over
 // these rows, opened, and asked 100,000 times each, half of these on either side. What differs from the arithmetic, or
 // takes more comparisons than the ceiling, is counted. There is no memory but the column and the slots.
+
+#![tactic(auto)]
+
 mod column;
 mod trial;
 

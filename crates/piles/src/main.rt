@@ -3,6 +3,9 @@
 // `ranked` gives each kind of key a number of the same order, `seen` is the reader, `pile` builds columns and strike
 // lists above one another, `opening` opens columns that are declined, and `tally` counts what was tried.
 // Expected values come from the rules, by plain loops; a case that differs changes what is printed.
+
+#![tactic(auto)]
+
 mod opening;
 mod pile;
 mod ranked;

@@ -9,6 +9,9 @@
 // child; a descent ends at the boundary between the rows passed and the others, within the ceiling.
 //
 // It stands on the node search and the declines of crate `indexes`, and knows nothing of keys.
+
+#![tactic(auto)]
+
 mod shape;
 
 pub use shape::{Shape, slot_count};

@@ -1,5 +1,8 @@
 // Reads a question sheet from standard input, and prints its answers: the text that `answers` proves, byte for byte.
 // Where there is no text, it says why on standard error and ends with status 1.
+
+#![tactic(auto)]
+
 use answers::{Refusal, answer};
 use anyhow::anyhow;
 use sheets::MOST;

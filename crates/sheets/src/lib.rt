@@ -11,6 +11,9 @@
 // `Sheet::layout`, `Part::keys` and `Sheet::requests` give what the fields say, as specs/Said.antt defines it.
 //
 // It stands on the kinds of key (crate `keys`) and on `Side` and `Layout` (crate `indexes`).
+
+#![tactic(auto)]
+
 mod field;
 mod key;
 mod reader;

@@ -6,6 +6,9 @@
 // `column` and `case` have what is expected. `builds`, `openings`, `lookups` and `respelled` hold the library to it;
 // `worked` holds it to numbers worked by hand, and `longest` to the limit of rows.
 // A case that differs changes the table, and with it what the program is expected to print.
+
+#![tactic(auto)]
+
 mod builds;
 mod case;
 mod column;

@@ -4,6 +4,9 @@
 // shapes, slots, places, comparisons and ceilings that the rules give as examples: whoever doubts that a definition says
 // what the rules do finds here what it comes to. Nothing else stands on this crate.
 // It stands on the definitions of shapes (crate `shapes`) and of frozen columns (`directories`).
+
+#![tactic(auto)]
+
 ghost use Rattle.std.specs.Prelude.{◌≡◌};
 ghost use Rattle.worked.specs.Cases.{Worked, column_a, one_to_40};
 

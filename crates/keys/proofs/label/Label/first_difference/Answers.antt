@@ -4,8 +4,8 @@ use Rattle.keys.specs.Weights.{weight_at_lem, SameBelow}
 use Rattle.keys.specs.Weighing.{no_difference, at_difference}
 use Rattle.keys.proofs.label.Label.first_difference.Goals as goal
 
-pub returns-then-weight-at : goal.returns-then-weight-at
-returns-then-weight-at c =
+pub returns-then-weight_at : goal.returns-then-weight_at
+returns-then-weight_at c =
     let v = weight_at_lem c.args.self.now in
     let w = weight_at_lem c.args.other.now in
     let i = c.loop-place.place in
