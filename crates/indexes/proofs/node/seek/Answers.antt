@@ -4,8 +4,8 @@ use Rattle.indexes.proofs.Halving.{bits_le, halving_end, search_boundary}
 use Rattle.indexes.proofs.Counting.{sought_rounds, sought_place, round_up, round_down}
 use Rattle.indexes.proofs.node.seek.Goals as goal
 
-pub overflow-add-comparisons : goal.overflow-add-comparisons
-overflow-add-comparisons g c =
+pub overflow_add-comparisons : goal.overflow_add-comparisons
+overflow_add-comparisons g c =
     let keys = c.args.keys.now in
     let most = sought_rounds g.K.Key.before keys c.args.key.now c.args.side in
     let few : bits (length keys) ≤ 64 = bits_le 64 (length keys) (search rules) in
