@@ -8,20 +8,20 @@ use Rattle.directories.proofs.descent.land.Given as given
 use Rattle.directories.proofs.descent.land.Goals as goal
 use Rattle.directories.proofs.descent.land.Goals.{After-seek-found}
 
-pub rows-of-requires : goal.rows-of-requires
-rows-of-requires g c = (c.requires.0, (c.requires.1.0, leaf_chunk_below c.args.shape.now c.requires.0 c.args.node c.in-Some.chunk c.requires.1.1 (sym c.in-Some.ensures)))
+pub rows_of-requires : goal.rows_of-requires
+rows_of-requires g c = (c.requires.0, (c.requires.1.0, leaf_chunk_below c.args.shape.now c.requires.0 c.args.node c.in-Some.chunk c.requires.1.1 (sym c.in-Some.ensures)))
 
 found : (g : given.Over) (c : After-seek-found g) → Leaf g.K.Key.before c.args.key.now c.args.side c.args.shape.now c.args.column.now c.in-Some.chunk c.seek-found.result
 found g c =
-    leaf g.K.Key.before c.args.key.now c.args.side c.args.shape.now c.args.column.now c.rows-of.result.now c.seek-found.result c.requires.0 c.requires.1.0 c.in-Some.chunk
+    leaf g.K.Key.before c.args.key.now c.args.side c.args.shape.now c.args.column.now c.rows_of.result.now c.seek-found.result c.requires.0 c.requires.1.0 c.in-Some.chunk
     (leaf_chunk_below c.args.shape.now c.requires.0 c.args.node c.in-Some.chunk c.requires.1.1 (sym c.in-Some.ensures))
-    c.rows-of.ensures c.seek-found.ensures
+    c.rows_of.ensures c.seek-found.ensures
 
-pub overflow-mul-result : goal.overflow-mul-result
-overflow-mul-result g c = let f = found g (goal.at.overflow-mul-result g c).After-seek-found in omega (arith, f.starts)
+pub overflow_mul-result : goal.overflow_mul-result
+overflow_mul-result g c = let f = found g (goal.at.overflow_mul-result g c).After-seek-found in omega (arith, f.starts)
 
-pub overflow-add-result : goal.overflow-add-result
-overflow-add-result g c = let f = found g (goal.at.overflow-add-result g c).After-seek-found in omega (arith, f.fits)
+pub overflow_add-result : goal.overflow_add-result
+overflow_add-result g c = let f = found g (goal.at.overflow_add-result g c).After-seek-found in omega (arith, f.fits)
 
 pub returns : goal.returns
 returns g c =

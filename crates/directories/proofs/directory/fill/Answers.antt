@@ -8,8 +8,8 @@ pub loop-i-preserved : goal.loop-i-preserved
 loop-i-preserved g c =
     let shape = c.args.shape.now in
     let rows = c.args.column.now in
-    let is = c.slot-row.ensures.is in
-    filled_more shape rows c.loop-i.slots c.loop-i.i c.index-column-slot-row.result c.loop-i.invariant
+    let is = c.slot_row.ensures.is in
+    filled_more shape rows c.loop-i.slots c.loop-i.i c.index-column-slot_row.result c.loop-i.invariant
     (omega (arith, c.loop-i.auto.slots, c.loop-i-test.true))
-    (omega (arith, is, c.slot-row.ensures.exists, c.requires.all))
-    (c.index-column-slot-row.is ∙ ap (λ r. get_or rows r c.index-column-slot-row.result) is)
+    (omega (arith, is, c.slot_row.ensures.exists, c.requires.all))
+    (c.index-column-slot_row.is ∙ ap (λ r. get_or rows r c.index-column-slot_row.result) is)

@@ -50,11 +50,11 @@ fits c =
     late_fits c.args.rows c.args.slots c.args.children c.loop-power.levels c.loop-power.power c.if-chunks-le1.upper c.if-chunks-le1-2.late
     c.requires.some c.requires.two c.loop-power-test.false c.loop-power.invariant.0 c.loop-power.invariant.4 (upper-is c) (late-is c)
 
-pub overflow-sub-result : goal.overflow-sub-result
-overflow-sub-result c = (fits (goal.at.overflow-sub-result c).Joined-chunks-le1-2).0
+pub overflow_sub-result : goal.overflow_sub-result
+overflow_sub-result c = (fits (goal.at.overflow_sub-result c).Joined-chunks-le1-2).0
 
-pub overflow-sub-result-2 : goal.overflow-sub-result-2
-overflow-sub-result-2 c = (fits (goal.at.overflow-sub-result-2 c).Joined-chunks-le1-2).1
+pub overflow_sub-result-2 : goal.overflow_sub-result-2
+overflow_sub-result-2 c = (fits (goal.at.overflow_sub-result-2 c).Joined-chunks-le1-2).1
 
 pub returns : goal.returns
 returns c =

@@ -18,20 +18,20 @@ here g c =
     let x = c.args.self.now in
     node g.K.Key.before g.met.K.Key.lawful x.shape (column_of x) x.slots.now (stands g.K.Key.before x c.requires) c.loop-node.node c.loop-node-test.true
 
-pub overflow-mul-from : goal.overflow-mul-from
-overflow-mul-from g c = let n = here g (goal.at.overflow-mul-from g c).In-loop-node in omega (arith, n.few)
+pub overflow_mul-from : goal.overflow_mul-from
+overflow_mul-from g c = let n = here g (goal.at.overflow_mul-from g c).In-loop-node in omega (arith, n.few)
 
-pub overflow-sub-shape : goal.overflow-sub-shape
-overflow-sub-shape g c = let n = here g (goal.at.overflow-sub-shape g c).In-loop-node in omega (arith, n.one)
+pub overflow_sub-shape : goal.overflow_sub-shape
+overflow_sub-shape g c = let n = here g (goal.at.overflow_sub-shape g c).In-loop-node in omega (arith, n.one)
 
-pub overflow-add-from : goal.overflow-add-from
-overflow-add-from g c = let n = here g (goal.at.overflow-add-from g c).In-loop-node in omega (arith, n.few)
+pub overflow_add-from : goal.overflow_add-from
+overflow_add-from g c = let n = here g (goal.at.overflow_add-from g c).In-loop-node in omega (arith, n.few)
 
-pub offset-bounds-self-from : goal.offset-bounds-self-from
-offset-bounds-self-from g c = let n = here g (goal.at.offset-bounds-self-from g c).In-loop-node in omega (arith, n.from_in)
+pub offset_bounds-self-from : goal.offset_bounds-self-from
+offset_bounds-self-from g c = let n = here g (goal.at.offset_bounds-self-from g c).In-loop-node in omega (arith, n.from_in)
 
-pub slice-bounds-seek-end : goal.slice-bounds-seek-end
-slice-bounds-seek-end g c = let n = here g (goal.at.slice-bounds-seek-end g c).In-loop-node in omega (arith, n.to_in)
+pub slice_bounds-seek-end : goal.slice_bounds-seek-end
+slice_bounds-seek-end g c = let n = here g (goal.at.slice_bounds-seek-end g c).In-loop-node in omega (arith, n.to_in)
 
 turn : (g : given.Over) (c : After-seek-found g)
     → Turned c.args.self.now.shape (passed_at g.K.Key.before (column_of c.args.self.now) c.args.key.now c.args.side)
@@ -41,23 +41,23 @@ turn g c =
     turned g.K.Key.before g.met.K.Key.lawful x.shape (column_of x) x.slots.now (stands g.K.Key.before x c.requires) c.args.key.now c.args.side
     c.loop-node.comparisons c.loop-node.node c.seek-found.result c.loop-node-test.true c.loop-node.invariant.1 c.loop-node.invariant.2 c.seek-found.ensures
 
-pub overflow-add-comparisons : goal.overflow-add-comparisons
-overflow-add-comparisons g c = let t = turn g (goal.at.overflow-add-comparisons g c).After-seek-found in omega (arith, t.fits)
+pub overflow_add-comparisons : goal.overflow_add-comparisons
+overflow_add-comparisons g c = let t = turn g (goal.at.overflow_add-comparisons g c).After-seek-found in omega (arith, t.fits)
 
-pub child-of-node-requires : goal.child-of-node-requires
-child-of-node-requires g c = (turn g (goal.at.child-of-node-requires g c).After-seek-found).small
+pub child_of-node-requires : goal.child_of-node-requires
+child_of-node-requires g c = (turn g (goal.at.child_of-node-requires g c).After-seek-found).small
 
 pub loop-node-smaller : goal.loop-node-smaller
 loop-node-smaller g c =
     let t = turn g (goal.at.loop-node-smaller g c).After-seek-found in
-    omega (arith, t.above, c.child-of-node.ensures, c.loop-node-test.true)
+    omega (arith, t.above, c.child_of-node.ensures, c.loop-node-test.true)
 
 pub loop-node-preserved : goal.loop-node-preserved
 loop-node-preserved g c =
     let x = c.args.self.now in
     let t = turn g (goal.at.loop-node-preserved g c).After-seek-found in
     let pass = passed_at g.K.Key.before (column_of x) c.args.key.now c.args.side in
-    let e = c.child-of-node.ensures in (
+    let e = c.child_of-node.ensures in (
       omega (arith, t.below, e),
       omega (arith, t.paid, e),
       ap (λ n. after (c.loop-node.comparisons + c.seek-found.result.comparisons) (descend x.shape pass x.shape.internal n)) e ∙ t.rest,
@@ -68,8 +68,8 @@ land-landed-requires g c =
     let s = stands g.K.Key.before c.args.self.now c.requires in
     (s.sound, (s.all, c.loop-node-test.false))
 
-pub overflow-add-result : goal.overflow-add-result
-overflow-add-result g c =
+pub overflow_add-result : goal.overflow_add-result
+overflow_add-result g c =
     let x = c.args.self.now in
     let s = stands g.K.Key.before x c.requires in
     let f = facts x.shape s.sound in

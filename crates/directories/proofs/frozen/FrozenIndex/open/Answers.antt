@@ -5,29 +5,29 @@ use Rattle.directories.proofs.Openings.{over, declined, unfit_opening, decided_o
 use Rattle.directories.proofs.SlotKeys.{compared}
 use Rattle.directories.proofs.frozen.FrozenIndex.open.Goals as goal
 
-pub returns-in-err-shape : goal.returns-in-err-shape
-returns-in-err-shape g c =
-    let why = c.in-err-shape.field-0.0 in
-    let is : c.from-residual.result ≡ Err why = search rules in
-    declined g.K.Key.before c.args.layout c.args.column.now c.args.slots.now c.args.self.now c.args.self.now c.from-residual.result why is
-    (unfit_opening g.K.Key.before c.args.layout c.args.column.now c.args.slots.now why c.in-err-shape.ensures) refl
+pub returns-in_err-shape : goal.returns-in_err-shape
+returns-in_err-shape g c =
+    let why = c.in_err-shape.field-0.0 in
+    let is : c.from_residual.result ≡ Err why = search rules in
+    declined g.K.Key.before c.args.layout c.args.column.now c.args.slots.now c.args.self.now c.args.self.now c.from_residual.result why is
+    (unfit_opening g.K.Key.before c.args.layout c.args.column.now c.args.slots.now why c.in_err-shape.ensures) refl
 
 pub agrees-requires : goal.agrees-requires
 agrees-requires g c =
-    over g.K.Key.before c.args.layout c.args.column.now c.in-ok-shape.shape (length c.args.slots.now) c.in-ok-shape.ensures.0 c.in-ok-shape.ensures.1
+    over g.K.Key.before c.args.layout c.args.column.now c.in_ok-shape.shape (length c.args.slots.now) c.in_ok-shape.ensures.0 c.in_ok-shape.ensures.1
 
 pub returns-then-not-agrees : goal.returns-then-not-agrees
 returns-then-not-agrees g c =
-    let fits = c.in-ok-shape.ensures in
-    let all = over g.K.Key.before c.args.layout c.args.column.now c.in-ok-shape.shape (length c.args.slots.now) fits.0 fits.1 in
+    let fits = c.in_ok-shape.ensures in
+    let all = over g.K.Key.before c.args.layout c.args.column.now c.in_ok-shape.shape (length c.args.slots.now) fits.0 fits.1 in
     declined g.K.Key.before c.args.layout c.args.column.now c.args.slots.now c.args.self.now c.args.self.now (Err SlotDiffers) SlotDiffers refl
-    (decided_opening g.K.Key.before c.args.layout c.args.column.now c.args.slots.now c.in-ok-shape.shape false fits.0 fits.1
-    (compared g.K.Key.before c.in-ok-shape.shape c.args.column.now c.args.slots.now false all c.if-not-agrees.ensures))
+    (decided_opening g.K.Key.before c.args.layout c.args.column.now c.args.slots.now c.in_ok-shape.shape false fits.0 fits.1
+    (compared g.K.Key.before c.in_ok-shape.shape c.args.column.now c.args.slots.now false all c.if-not-agrees.ensures))
     refl
 
 pub returns : goal.returns
 returns g c =
-    let fits = c.in-ok-shape.ensures in
-    let all = over g.K.Key.before c.args.layout c.args.column.now c.in-ok-shape.shape (length c.args.slots.now) fits.0 fits.1 in
-    accepted g.K.Key.before c.args.layout c.args.column.now g.met.K.Key.lawful c.args.slots.now c.in-ok-shape.shape c.args.self.now c.over.result c.over.ensures fits.0 fits.1
-    (compared g.K.Key.before c.in-ok-shape.shape c.args.column.now c.args.slots.now true all c.if-not-agrees.ensures)
+    let fits = c.in_ok-shape.ensures in
+    let all = over g.K.Key.before c.args.layout c.args.column.now c.in_ok-shape.shape (length c.args.slots.now) fits.0 fits.1 in
+    accepted g.K.Key.before c.args.layout c.args.column.now g.met.K.Key.lawful c.args.slots.now c.in_ok-shape.shape c.args.self.now c.over.result c.over.ensures fits.0 fits.1
+    (compared g.K.Key.before c.in_ok-shape.shape c.args.column.now c.args.slots.now true all c.if-not-agrees.ensures)

@@ -4,8 +4,8 @@ use Rattle.directories.specs.Frozen.{column_of}
 use Rattle.directories.proofs.Models.{Ceiling, ceiling}
 use Rattle.directories.proofs.frozen.FrozenIndexIndex.ceiling.Goals as goal
 
-pub most-comparisons-requires : goal.most-comparisons-requires
-most-comparisons-requires g c =
+pub most_comparisons-requires : goal.most_comparisons-requires
+most_comparisons-requires g c =
     let x = c.args.self.now in
     (ceiling x.layout (length (column_of x)) x.shape c.requires.fine c.requires.meant.few c.requires.shaped).modest
 
@@ -13,4 +13,4 @@ pub returns : goal.returns
 returns g c =
     let x = c.args.self.now in
     let k = ceiling x.layout (length (column_of x)) x.shape c.requires.fine c.requires.meant.few c.requires.shaped in
-    record { answers = c.most-comparisons.ensures ∙ k.is; meant = c.requires.meant }
+    record { answers = c.most_comparisons.ensures ∙ k.is; meant = c.requires.meant }

@@ -11,7 +11,7 @@ returns g c =
     let s = c.args.self.now in
     let n = length (g.I.Index.means s.below).rows in
     let e : c.remove.result ≡ restore_answer n (numbers s.struck) c.args.row =
-    c.remove.ensures.answers ∙ sym (cond-true _ _ _ (inside n c.args.row _ c.in-ok-below-has.ensures)) in
+    c.remove.ensures.answers ∙ sym (cond-true _ _ _ (inside n c.args.row _ c.in_ok-below_has.ensures)) in
     record {
       answers = e;
       holds = c.remove.ensures.holds;

@@ -5,8 +5,8 @@ use Rattle.layers.specs.Views.{numbers}
 use Rattle.layers.proofs.Sights.{len_sighted, meant_sighted}
 use Rattle.layers.proofs.strike_list.StrikeListIndex.len.Goals as goal
 
-pub in-sight-requires : goal.in-sight-requires
-in-sight-requires g c =
+pub in_sight-requires : goal.in_sight-requires
+in_sight-requires g c =
     let t = c.args.self.now.struck in
     let h = len_sighted (g.I.Index.means c.args.self.now.below).rows (numbers t) t.rising in
     let e = ap (under (numbers t)) c.len.ensures.answers in

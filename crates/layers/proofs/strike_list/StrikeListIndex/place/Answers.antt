@@ -5,8 +5,8 @@ use Rattle.layers.specs.Views.{numbers}
 use Rattle.layers.proofs.Sights.{place_sighted, place_few, meant_sighted}
 use Rattle.layers.proofs.strike_list.StrikeListIndex.place.Goals as goal
 
-pub in-sight-requires : goal.in-sight-requires
-in-sight-requires g c =
+pub in_sight-requires : goal.in_sight-requires
+in_sight-requires g c =
     let t = c.args.self.now.struck in
     let meant = c.place-found.ensures.meant in
     let h = place_sighted g.met.K.Key.lawful meant (numbers t) t.rising c.args.key.now c.args.side in

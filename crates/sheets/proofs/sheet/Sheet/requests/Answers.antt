@@ -13,13 +13,13 @@ loop-field-init g c =
     let spelled = g.K.SheetKey.spelled in
     subst (λ out. Asked w spelled sheet out (state sheet.calls)) (sym c.new-requests.ensures.items) (asked_none w spelled sheet)
 
-pub loop-field-smaller-in-Continue· : goal.loop-field-smaller-in-Continue·
-loop-field-smaller-in-Continue· g c = shorter (taken _ _ _ _ (sym (went (state c.loop-field.reader) _ _ c.in-Some.ensures.field c.in-Some.ensures.reader)))
+pub loop-field-smaller-in-Continue-1 : goal.loop-field-smaller-in-Continue-1
+loop-field-smaller-in-Continue-1 g c = shorter (taken _ _ _ _ (sym (went (state c.loop-field.reader) _ _ c.in-Some.ensures.field c.in-Some.ensures.reader)))
 
-pub loop-field-preserved-in-Continue· : goal.loop-field-preserved-in-Continue·
-loop-field-preserved-in-Continue· g c =
+pub loop-field-preserved-in-Continue-1 : goal.loop-field-preserved-in-Continue-1
+loop-field-preserved-in-Continue-1 g c =
     asked_more g.K.SheetKey.width g.K.SheetKey.spelled c.args.self.now (vec_items c.loop-field.requests) (vec_items c.push.new.self) (state c.loop-field.reader) _ c.loop-field.invariant (went (state c.loop-field.reader) _ _ c.in-Some.ensures.field c.in-Some.ensures.reader)
-    (c.in-ok-push.ensures.items ∙ ap (λ o. vec_items c.loop-field.requests ++ put_first o []) c.in-Some-of.ensures)
+    (c.in_ok-push.ensures.items ∙ ap (λ o. vec_items c.loop-field.requests ++ put_first o []) c.in-Some-of.ensures)
 
 pub loop-field-smaller : goal.loop-field-smaller
 loop-field-smaller g c = shorter (taken _ _ _ _ (sym (went (state c.loop-field.reader) _ _ c.in-Some.ensures.field c.in-Some.ensures.reader)))
@@ -27,11 +27,11 @@ loop-field-smaller g c = shorter (taken _ _ _ _ (sym (went (state c.loop-field.r
 pub loop-field-preserved : goal.loop-field-preserved
 loop-field-preserved g c =
     asked_more g.K.SheetKey.width g.K.SheetKey.spelled c.args.self.now (vec_items c.loop-field.requests) (vec_items c.loop-field.requests) (state c.loop-field.reader) _ c.loop-field.invariant (went (state c.loop-field.reader) _ _ c.in-Some.ensures.field c.in-Some.ensures.reader)
-    (sym (append-nil (vec_items c.loop-field.requests)) ∙ ap (λ o. vec_items c.loop-field.requests ++ put_first o []) c.in-default-of.ensures)
+    (sym (append-nil (vec_items c.loop-field.requests)) ∙ ap (λ o. vec_items c.loop-field.requests ++ put_first o []) c.in_default-of.ensures)
 
 pub returns : goal.returns
 returns g c s says =
     let w = g.K.SheetKey.width in
     let spelled = g.K.SheetKey.spelled in
-    let asks = asked_all w spelled c.args.self.now (vec_items c.loop-field.requests) (state c.loop-field.reader) c.loop-field.invariant (stayed (state c.loop-field.reader) c.in-default.ensures.field) s says in
+    let asks = asked_all w spelled c.args.self.now (vec_items c.loop-field.requests) (state c.loop-field.reader) c.loop-field.invariant (stayed (state c.loop-field.reader) c.in_default.ensures.field) s says in
     record { asks = asks; one_each = λ all. ap length asks ∙ asks_each w spelled s.calls all }
