@@ -4,4 +4,4 @@ use Rattle.worked.proofs.Computed.{worked}
 use Rattle.worked.proofs.worked_columns.Goals as goal
 
 pub returns : goal.returns
-returns c = subst₂ Worked (sym c.equal-rows.ensures) (sym c.rising-rows.ensures) worked
+returns c = subst₂ Worked (sym c.equal_rows.ensures) (sym c.rising_rows.ensures) worked

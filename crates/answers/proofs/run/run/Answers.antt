@@ -24,10 +24,10 @@ loop-request-preserved g c =
     let means = g.I.Index.means in (
       c.answer-answer.ensures.opened,
       step.below ∙ inv.1,
-      lines_more before m c.args.requests.now c.loop-request.request-index r c.answer-answer.result out (has (out_of c.answer-answer.new.self)) (string_bytes c.loop-request.text) (string_bytes c.write-answer.new.text) c.loop-request-test.true c.request-item.is
+      lines_more before m c.args.requests.now c.loop-request.request-index r c.answer-answer.result out (has (out_of c.answer-answer.new.self)) (string_bytes c.loop-request.text) (string_bytes c.write_answer.new.text) c.loop-request-test.true c.request-item.is
           (step.answer ∙ (λ j. reply before (means (inv.1 j)) out (c.call.ensures j)))
           (step.set ∙ (λ j. set_after before (means (inv.1 j)) out (c.call.ensures j)))
-          (c.in_ok-write-answer.ensures ∙ ap (λ x. string_bytes c.loop-request.text ++ line x (told c.answer-answer.result)) c.letter.ensures.value)
+          (c.in_ok-write_answer.ensures ∙ ap (λ x. string_bytes c.loop-request.text ++ line x (told c.answer-answer.result)) c.letter.ensures.value)
           ∙ inv.2,
     )
 

@@ -4,10 +4,10 @@ use Rattle.answers.specs.Printed.{text_under}
 use Rattle.answers.proofs.Sheets.{some_sheet, text_by}
 use Rattle.answers.proofs.sheet_text.answer.Goals as goal
 
-pub returns-in_ok-bare : goal.returns-in_ok-bare
-returns-in_ok-bare c =
+pub returns-in_ok-bare-in-Bare : goal.returns-in_ok-bare-in-Bare
+returns-in_ok-bare-in-Bare c =
     let e = some_sheet c.args.bytes.now c.in-Some.sheet c.in-Some.ensures.said in
-    text_by c.args.bytes.now c.in-Some.sheet e.0 _ e.2 e.1 c.in-Bare.ensures ∙ ap Some (sym (c.in_ok-bare.ensures e.0 e.1))
+    text_by c.args.bytes.now c.in-Some.sheet e.0 _ e.2 e.1 c.in-Bare.ensures ∙ ap Some (sym (c.in_ok-bare-in-Bare.ensures e.0 e.1))
 
 pub returns-in-Full : goal.returns-in-Full
 returns-in-Full c =

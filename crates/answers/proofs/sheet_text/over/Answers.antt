@@ -14,9 +14,9 @@ returns g c s says =
     let opens = c.in_default.ensures in
     subst (λ x. IfOk c.run.result (λ t. string_bytes t ≡ x))
     (opened_lines before w spelled c.args.letter _ s.calls _ _ _ _ _
-    (c.as-slice.ensures.value ∙ c.in_ok-rows.ensures)
+    (c.as_slice.ensures.value ∙ c.in_ok-rows.ensures)
     opens.answers
     (ap (λ x. bare before (column_of x)) c.new.ensures.below ∙ ap (bare before) opens.holds)
     (ap has c.new.ensures.none ∙ fun_ext (λ r. refl))
-    (c.as-slice-2.ensures.value ∙ (c.in_ok-requests.ensures s says).asks))
+    (c.as_slice-2.ensures.value ∙ (c.in_ok-requests.ensures s says).asks))
     c.run.ensures
