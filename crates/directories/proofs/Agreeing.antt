@@ -1,5 +1,5 @@
 -- What is built over a column opens: slots agree with themselves, and there are as many as are wanted.
-use Rattle.std.proofs.Common.{◌≡◌, ℕ, zero, suc, ◌+◌, Bool, true, false, cond, not, ◌&&◌, List, [], ◌∷◌, length, get_or, Ok, Err, sym, refl, ap, ◌∙◌, zero-mul, arith}
+use Rattle.std.proofs.Common.{◌≡◌, ℕ, zero, suc, ◌+◌, Bool, true, cond, not, ◌&&◌, List, [], ◌∷◌, length, get_or, Ok, Err, sym, refl, ap, ◌∙◌, zero-mul, arith}
 use native.Mathlib.Nat.{div-eq_of_lt}
 use Rattle.std.proofs.lemmas.List.FromFn.{length-map-range_with_len}
 use Rattle.keys.specs.Order.{Lawful}
@@ -7,7 +7,7 @@ use Rattle.keys.specs.Orders.{laws}
 use Rattle.indexes.specs.declared.decline.Decline.TheVariants.{SlotDiffers}
 use Rattle.indexes.specs.declared.layout.Layout.{Layout}
 use Rattle.indexes.specs.declared.layout.Layout.TheVariants.{Bare, Full, Level}
-use Rattle.shapes.specs.Numbers.{chunks_of, shape, one_chunk}
+use Rattle.shapes.specs.Numbers.{chunks_of, shape}
 use Rattle.shapes.specs.Layouts.{shape_under, slots_in}
 use Rattle.directories.specs.Opening.{reasons, building, opening}
 use Rattle.directories.specs.Slots.{row_of_slot, slots_under, agree}

@@ -1,16 +1,16 @@
 -- The descent turn by turn, as the code takes it: what is counted so far, and then the rest from here, is the whole.
-use Rattle.std.proofs.Common.{◌≡◌, ℕ, zero, suc, ◌+◌, ◌-◌, ◌*◌, ◌<◌, ◌≤◌, Bool, List, length, sym, refl, ap, ◌∙◌, subst, add_assoc, arith}
+use Rattle.std.proofs.Common.{◌≡◌, ℕ, ◌+◌, ◌-◌, ◌*◌, ◌<◌, ◌≤◌, Bool, List, sym, ap, ◌∙◌, add_assoc, arith}
 use Rattle.std.specs.List.{between}
 use Rattle.keys.specs.Order.{Lawful}
 use Rattle.indexes.specs.declared.index.Counted.{Counted}
 use Rattle.indexes.specs.declared.index.Side.{Side}
-use Rattle.indexes.specs.Seeking.{Sought, passed_at, sought, bits, Seeks}
+use Rattle.indexes.specs.Seeking.{Sought, passed_at, Seeks}
 use Rattle.indexes.proofs.Halving.{bits_le, search_boundary, rounds_le}
 use Rattle.shapes.specs.declared.shape.Shape.{Shape}
-use Rattle.shapes.specs.Descent.{node_seek, after, at_node, at_leaf, descend, descent}
+use Rattle.shapes.specs.Descent.{after, at_node, at_leaf, descend, descent}
 use Rattle.shapes.specs.Nodes.{child, chunk_at, slot_row}
 use Rattle.shapes.proofs.Descended.{descend_go, descend_stop, at_leaf_rounds}
-use Rattle.directories.specs.Slots.{Sound, Stands}
+use Rattle.directories.specs.Slots.{Stands}
 use Rattle.directories.proofs.Sounds.{Facts, facts, Onward, onward}
 use Rattle.directories.proofs.Parts.{node_sought}
 

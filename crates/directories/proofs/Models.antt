@@ -1,5 +1,5 @@
 -- What a frozen column means holds, under each allowed layout; and an opened index stands on its slots.
-use Rattle.std.proofs.Common.{◌≡◌, ℕ, zero, suc, ◌+◌, ◌-◌, ◌*◌, ◌<◌, ◌≤◌, min, Bool, true, false, List, [], length, Some, sym, refl, ap, ◌∙◌, subst, mul-le-mul, zero-add, zero-mul, arith}
+use Rattle.std.proofs.Common.{◌≡◌, ℕ, zero, suc, ◌+◌, ◌-◌, ◌*◌, ◌≤◌, min, Bool, true, List, length, Some, sym, refl, ap, ◌∙◌, subst, mul-le-mul, arith}
 use Rattle.keys.specs.Order.{Lawful}
 use Rattle.indexes.specs.declared.index.Side.{Side}
 use Rattle.indexes.specs.declared.layout.Layout.{Layout}
@@ -7,7 +7,7 @@ use Rattle.indexes.specs.declared.layout.Layout.TheVariants.{Bare, Full, Level}
 use Rattle.indexes.specs.Meaning.{Meant, Ordered, place_of}
 use Rattle.indexes.specs.Seeking.{Sought, halving, passed_at, sought, bits, Cut}
 use Rattle.indexes.proofs.Halving.{halving_same, bits_le}
-use Rattle.indexes.proofs.Counting.{sought_cut, sought_place, sought_rounds}
+use Rattle.indexes.proofs.Counting.{sought_cut, sought_place}
 use Rattle.shapes.specs.declared.shape.Shape.{Shape}
 use Rattle.shapes.specs.Numbers.{one_chunk}
 use Rattle.shapes.specs.Nodes.{chunk_at}
@@ -15,7 +15,7 @@ use Rattle.shapes.specs.Descent.{node_seek, at_leaf, descend, descent, most_roun
 use Rattle.shapes.specs.Layouts.{allowed, shape_under, ceiling_under}
 use Rattle.shapes.proofs.Spans.{chunk_low}
 use Rattle.shapes.proofs.Descended.{descend_stop}
-use Rattle.shapes.proofs.Sizes.{lawful_under, small_under, rows_under, internal_few, levels_few}
+use Rattle.shapes.proofs.Sizes.{rows_under}
 use Rattle.shapes.proofs.Trees.{shapely_under, ceiling_is}
 use Rattle.directories.specs.declared.frozen.FrozenIndex.{FrozenIndex}
 use Rattle.directories.specs.Slots.{Sound, Modest, Stands}

@@ -1,5 +1,5 @@
 -- An opening, declined or accepted: what it comes to.
-use Rattle.std.proofs.Common.{◌≡◌, ℕ, Bool, true, false, cond, not, List, length, Ok, Err, Result, sym, refl, ap, ◌∙◌, subst, arith}
+use Rattle.std.proofs.Common.{◌≡◌, ℕ, Bool, true, cond, not, List, length, Ok, Err, Result, sym, ap, ◌∙◌, subst, arith}
 use Rattle.keys.specs.Order.{Lawful}
 use Rattle.indexes.specs.declared.decline.Decline.{Decline}
 use Rattle.indexes.specs.declared.decline.Decline.TheVariants.{SlotDiffers}

@@ -1,6 +1,5 @@
 -- The searches of a descent, as the code makes them: over a node's part of the slots, and over a chunk's part of the column.
-use Rattle.std.proofs.Common.{◌≡◌, ℕ, zero, suc, ◌+◌, ◌-◌, ◌*◌, ◌/◌, ◌%◌, ◌<◌, ◌≤◌, min, Bool, true, false, not, List, length, get_or, Some, sym, refl, ap, ◌∙◌, mul-le-mul_right, mod-eq_of_lt, mul-le-mul_left, arith}
-use native.Mathlib.Nat.{div-eq_of_lt}
+use Rattle.std.proofs.Common.{◌≡◌, ℕ, suc, ◌+◌, ◌-◌, ◌*◌, ◌<◌, ◌≤◌, Bool, true, not, List, length, get_or, Some, ap, ◌∙◌, mul-le-mul_right, mul-le-mul_left, arith}
 use lib.Arith.{digits_div, digits_mod}
 use Rattle.std.specs.List.{between}
 use Rattle.std.proofs.lemmas.List.Edits.{length-between, get_or-between}
@@ -10,15 +9,15 @@ use Rattle.indexes.specs.declared.index.Counted.{Counted}
 use Rattle.indexes.specs.declared.index.Side.{Side}
 use Rattle.indexes.specs.declared.index.Side.TheVariants.{At, After}
 use Rattle.indexes.specs.Meaning.{passed}
-use Rattle.indexes.specs.Seeking.{Sought, halving, passed_at, sought, bits, Seeks}
+use Rattle.indexes.specs.Seeking.{Sought, halving, passed_at, sought, Seeks}
 use Rattle.indexes.proofs.Halving.{halving_same, search_boundary}
 use Rattle.shapes.specs.declared.shape.Shape.{Shape}
 use Rattle.shapes.specs.Descent.{node_seek, at_node, at_leaf}
 use Rattle.shapes.specs.Layouts.{slots_in}
-use Rattle.shapes.specs.Nodes.{size, slot_row, child}
-use Rattle.directories.specs.Slots.{Sound, Stands, row_of_slot, slot_keys, chunk_rows, agree}
+use Rattle.shapes.specs.Nodes.{size, slot_row}
+use Rattle.directories.specs.Slots.{Sound, Stands, row_of_slot, slot_keys, chunk_rows}
 use Rattle.directories.proofs.Sounds.{Facts, facts, chunk}
-use Rattle.directories.proofs.SlotKeys.{slot_key, length_slot_keys, agree_at, agree_length, row_exists}
+use Rattle.directories.proofs.SlotKeys.{slot_key, length_slot_keys, agree_at, agree_length}
 
 module _ {K : Type 0} (before : K → K → Bool) (key : K) (side : Side) where
   -- a part is sought like the places that its keys are passed at

@@ -1,11 +1,11 @@
 -- Reasons to decline, one after the other: where none fits, and where one more may.
-use Rattle.std.proofs.Common.{◌≡◌, ℕ, ◌≤◌, Bool, true, false, cond, not, eqb, ltb, List, [], ◌∷◌, ◌++◌, length, Ok, Err, Result, sym, refl, ap, ◌∙◌, arith}
+use Rattle.std.proofs.Common.{◌≡◌, ℕ, ◌≤◌, Bool, true, false, cond, not, List, [], ◌∷◌, ◌++◌, length, Ok, Err, Result, sym, refl, arith}
 use Rattle.std.proofs.lemmas.Bool.{ltb-false, eqb-true}
 use Rattle.indexes.specs.declared.decline.Decline.{Decline}
 use Rattle.indexes.specs.declared.layout.Layout.{Layout}
 use Rattle.indexes.specs.Meaning.{Ordered}
 use Rattle.shapes.specs.Layouts.{allowed, shape_under, slots_in}
-use Rattle.directories.specs.Opening.{in_order, first_fit, reasons, building}
+use Rattle.directories.specs.Opening.{in_order, first_fit, building}
 use Rattle.directories.proofs.Columns.{ordered_from_test}
 
 -- where no reason fits, one reason more decides

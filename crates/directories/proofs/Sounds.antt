@@ -1,5 +1,5 @@
 -- What a sound shape gives the code: its laws, and numbers so small that no sum or product of the code is too large.
-use Rattle.std.proofs.Common.{◌≡◌, ℕ, zero, suc, ◌+◌, ◌-◌, ◌*◌, ◌/◌, ◌%◌, ◌<◌, ◌≤◌, min, true, Some, sym, ap, ◌∙◌, subst, mul-le-mul_right, mod-lt, mul-le-mul_left, arith}
+use Rattle.std.proofs.Common.{◌≡◌, ℕ, zero, suc, ◌+◌, ◌-◌, ◌*◌, ◌/◌, ◌%◌, ◌<◌, ◌≤◌, true, Some, sym, subst, mul-le-mul_right, mod-lt, mul-le-mul_left, arith}
 use native.Mathlib.Nat.{div-add-mod, lt_of_mul-lt-mul_left}
 use Rattle.indexes.specs.declared.layout.Layout.{Layout}
 use Rattle.shapes.specs.declared.shape.Shape.{Shape}

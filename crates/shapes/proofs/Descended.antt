@@ -1,15 +1,15 @@
 -- The descent finds the place, and keeps under the ceiling.
-use Rattle.std.proofs.Common.{◌≡◌, ℕ, zero, suc, ◌+◌, ◌-◌, ◌*◌, ◌^◌, ◌<◌, ◌≤◌, min, Bool, true, false, ltb, ◌⊎◌, Some, None, Option, sym, refl, ap, ◌∙◌, inl, inr, mul-le-mul_right, mul-le-mul_left, arith}
+use Rattle.std.proofs.Common.{◌≡◌, ℕ, zero, suc, ◌+◌, ◌-◌, ◌*◌, ◌<◌, ◌≤◌, Bool, true, false, ◌⊎◌, Some, None, Option, sym, refl, ap, ◌∙◌, inl, inr, mul-le-mul_right, mul-le-mul_left, arith}
 use native.Mathlib.Nat.{sub-zero}
 use Rattle.std.proofs.lemmas.Bool.{lt-ltb, le-ltb, cases_lt, both_ways}
-use Rattle.indexes.specs.Seeking.{Sought, bits, Boundary, Cut}
+use Rattle.indexes.specs.Seeking.{bits, Boundary, Cut}
 use Rattle.indexes.proofs.Halving.{search_boundary, rounds_le, under_bits, bits_le}
 use Rattle.shapes.specs.declared.shape.Shape.{Shape}
 use Rattle.shapes.specs.Nodes.{chunk_at, child, size, slot_row}
 use Rattle.shapes.specs.Descent.{node_seek, after, at_node, at_leaf, descend, descent, most_rounds}
 use Rattle.shapes.proofs.Lawful.{Lawful, starts, starts_mono}
 use Rattle.shapes.proofs.Walk.{upward, child_above}
-use Rattle.shapes.proofs.Spans.{opens, ends, row_at, start_of, end_of, opens_stop, ends_stop, opens_go, ends_go, siblings, root_opens, root_ends, leaf_below, chunk_starts, slot_is, slot_below, ends_some, ends_most, rows_some}
+use Rattle.shapes.proofs.Spans.{opens, ends, row_at, start_of, end_of, opens_stop, ends_stop, opens_go, ends_go, siblings, root_opens, root_ends, leaf_below, chunk_starts, slot_is, slot_below, ends_some, rows_some}
 
 -- the descent, without its count of steps
 pub descend_stop : (g : Shape) (pass : ℕ → Bool) (f b : ℕ) → g.internal ≤ b → descend g pass f b ≡ at_leaf g pass (chunk_at g b)

@@ -1,13 +1,13 @@
 -- The leaves under a node, from left to right: the chunks from where it opens to where it ends.
-use Rattle.std.proofs.Common.{◌≡◌, ℕ, zero, suc, ◌+◌, ◌-◌, ◌*◌, ◌<◌, ◌≤◌, true, false, ◌⊎◌, List, [], ◌∷◌, ◌++◌, Some, None, Option, sym, refl, ap, ◌∙◌, inl, inr, append_assoc, add-one, arith}
+use Rattle.std.proofs.Common.{◌≡◌, ℕ, zero, suc, ◌+◌, ◌-◌, ◌<◌, ◌≤◌, ◌⊎◌, List, ◌∷◌, ◌++◌, Some, None, Option, sym, refl, ap, ◌∙◌, inl, inr, arith}
 use Rattle.std.specs.List.{range_with_len}
 use Rattle.std.proofs.lemmas.Bool.{lt-ltb, le-ltb, cases_lt}
 use Rattle.shapes.specs.declared.shape.Shape.{Shape}
-use Rattle.shapes.specs.Nodes.{child, chunk_at, along, last_row, slot_row, joined, leaf_chunk, leaves_within, leaves}
+use Rattle.shapes.specs.Nodes.{child, chunk_at, last_row, slot_row, joined, leaf_chunk, leaves_within, leaves}
 use Rattle.shapes.specs.Laws.{last_or}
 use Rattle.shapes.proofs.Lawful.{Lawful}
 use Rattle.shapes.proofs.Walk.{upward, child_above}
-use Rattle.shapes.proofs.Spans.{start_of, end_of, opens, ends, opens_stop, ends_stop, opens_go, ends_go, siblings, opens_below_ends, root_opens, root_ends, row_at, slot_is, last_is, ends_some, ends_most, first_some, chunk_high, chunk_low, chunk_none}
+use Rattle.shapes.proofs.Spans.{start_of, end_of, opens, ends, opens_stop, ends_stop, opens_go, ends_go, siblings, opens_below_ends, root_opens, root_ends, row_at, slot_is, last_is, ends_some, ends_most, chunk_high, chunk_low, chunk_none}
 
 -- numbers from a on, and then from where these end
 pub counting_append : (m n a : ℕ) → range_with_len a m ++ range_with_len (a + m) n ≡ range_with_len a (m + n)

@@ -1,10 +1,10 @@
 -- How large the numbers of an allowed layout's shape are: small enough for every sum and product of the code.
-use Rattle.std.proofs.Common.{◌≡◌, ℕ, zero, suc, ◌+◌, ◌-◌, ◌*◌, ◌^◌, ◌<◌, ◌≤◌, min, true, ◌||◌, eqb, leb, sym, refl, ap, ◌∙◌, inl, inr, mul-le-mul_right, mul-le-mul_left, le-mul_of_pos_right, arith}
+use Rattle.std.proofs.Common.{◌≡◌, ℕ, zero, suc, ◌+◌, ◌-◌, ◌*◌, ◌^◌, ◌≤◌, true, ◌||◌, eqb, leb, refl, ap, inl, inr, mul-le-mul_right, le-mul_of_pos_right, arith}
 use Rattle.std.proofs.lemmas.Bool.{cases_lt, and_parts, or_cases, leb-true, eqb-true}
 use Rattle.indexes.specs.declared.layout.Layout.{Layout}
 use Rattle.indexes.specs.declared.layout.Layout.TheVariants.{Bare, Full, Level}
 use Rattle.shapes.specs.declared.shape.Shape.{Shape}
-use Rattle.shapes.specs.Numbers.{shape, one_chunk, Measurable}
+use Rattle.shapes.specs.Numbers.{shape, Measurable}
 use Rattle.shapes.specs.Layouts.{allowed, shape_under}
 use Rattle.shapes.proofs.Lawful.{Lawful, lawful, bare_lawful, starts}
 

@@ -1,10 +1,10 @@
 -- The span of a node: the chunks from `opens` up to `ends` lie under it. Children share out their parent's span in order.
-use Rattle.std.proofs.Common.{◌≡◌, ℕ, zero, suc, ◌+◌, ◌-◌, ◌*◌, ◌<◌, ◌≤◌, min, Bool, true, false, cond, ltb, ◌≢◌, ◌⊎◌, Some, None, Option, sym, refl, ap, ◌∙◌, subst, inl, inr, mul-le-mul_right, mul-le-mul_left, arith}
-use native.Mathlib.Nat.{eq_of_mul-eq-mul_left, lt_of_mul-lt-mul_left}
+use Rattle.std.proofs.Common.{◌≡◌, ℕ, zero, suc, ◌+◌, ◌-◌, ◌*◌, ◌<◌, ◌≤◌, min, ◌≢◌, Some, None, Option, sym, refl, ap, ◌∙◌, inl, inr, mul-le-mul_right, mul-le-mul_left, arith}
+use native.Mathlib.Nat.{eq_of_mul-eq-mul_left}
 use Rattle.std.proofs.lemmas.Bool.{lt-ltb, le-ltb, cases_lt, cond-true, cond-false}
 use Rattle.shapes.specs.declared.shape.Shape.{Shape}
-use Rattle.shapes.specs.Nodes.{chunk_at, child, along, size, last_row, last_held, slot_row}
-use Rattle.shapes.proofs.Lawful.{Lawful, starts, starts_mono}
+use Rattle.shapes.specs.Nodes.{chunk_at, child, along, last_row, last_held, slot_row}
+use Rattle.shapes.proofs.Lawful.{Lawful, starts}
 use Rattle.shapes.proofs.Walk.{upward, child_above, along_stop, along_go}
 
 -- the chunks before the end of node c, which is a leaf or no leaf, and before its start

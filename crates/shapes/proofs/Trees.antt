@@ -1,5 +1,5 @@
 -- The laws of every allowed layout's shape: its tree, and its descents under the ceiling.
-use Rattle.std.proofs.Common.{◌≡◌, ℕ, zero, suc, ◌+◌, ◌-◌, ◌*◌, ◌^◌, ◌<◌, ◌≤◌, min, Bool, true, Ok, sym, refl, ap, ◌∙◌, subst, inl, inr, mul-le-mul, pow-suc, arith, pow_pos}
+use Rattle.std.proofs.Common.{◌≡◌, ℕ, suc, ◌+◌, ◌-◌, ◌*◌, ◌^◌, ◌≤◌, true, Ok, sym, refl, ap, ◌∙◌, subst, inl, inr, mul-le-mul, pow-suc, arith, pow_pos}
 use native.Mathlib.Nat.{pow-zero}
 use Rattle.std.proofs.lemmas.Bool.{cases_lt, cases_Bool, cond-true, cond-false, le-ltb, lt-ltb}
 use Rattle.indexes.specs.declared.layout.Layout.{Layout}
@@ -9,13 +9,13 @@ use Rattle.indexes.proofs.Halving.{bits_is}
 use Rattle.shapes.specs.declared.shape.Shape.{Shape}
 use Rattle.shapes.specs.Numbers.{shape, one_chunk, levels_of}
 use Rattle.shapes.specs.Layouts.{allowed, shape_under, ceiling_under, shaping}
-use Rattle.shapes.specs.Descent.{descent, most_rounds}
+use Rattle.shapes.specs.Descent.{most_rounds}
 use Rattle.shapes.specs.Laws.{Tree, LevelPower, Shapely}
 use Rattle.shapes.proofs.Lawful.{Lawful, least_enough, least_least}
 use Rattle.shapes.proofs.Spans.{slot_below}
 use Rattle.shapes.proofs.Leaves.{leaves_of_root, leaf_once, slot_last}
 use Rattle.shapes.proofs.Descended.{finds, under_most}
-use Rattle.shapes.proofs.Sizes.{Power, Small, small_under, internal_few, full_sizes, level_sizes, level_between, lawful_under, rows_under}
+use Rattle.shapes.proofs.Sizes.{Power, small_under, internal_few, full_sizes, level_sizes, level_between, lawful_under, rows_under}
 
 -- k is the least number with w ^ k ≥ N
 abbrev Least : Shape → Type 0

@@ -1,5 +1,5 @@
 -- What holds of every directory's tree: its leaves, its slots, its descents and its ceiling. Assumes nothing.
-use Rattle.std.specs.Prelude.{◌≡◌, ℕ, ◌+◌, ◌-◌, ◌*◌, ◌^◌, ◌<◌, ◌≤◌, Bool, List, [], ◌∷◌, Some, Ok, Err, Result}
+use Rattle.std.specs.Prelude.{◌≡◌, ℕ, ◌-◌, ◌^◌, ◌<◌, ◌≤◌, Bool, List, [], ◌∷◌, Some, Ok, Err, Result}
 use Rattle.std.specs.List.{range_with_len}
 use Rattle.indexes.specs.declared.decline.Decline.{Decline}
 use Rattle.indexes.specs.declared.layout.Layout.{Layout}

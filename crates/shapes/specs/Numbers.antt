@@ -1,5 +1,5 @@
 -- The numbers of a directory over n rows, whose nodes have m slots and w children. Assumes nothing.
-use Rattle.std.specs.Prelude.{ℕ, zero, suc, ◌+◌, ◌-◌, ◌*◌, ◌/◌, ◌^◌, ◌≤◌, min, true, false, cond, nat_le, nat_lt}
+use Rattle.std.specs.Prelude.{ℕ, zero, suc, ◌+◌, ◌-◌, ◌/◌, ◌^◌, ◌≤◌, min, true, false, cond, nat_le, nat_lt}
 use Rattle.shapes.specs.declared.shape.Shape.{Shape}
 
 -- N: n / m rounded up

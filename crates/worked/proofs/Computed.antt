@@ -5,7 +5,7 @@ use Rattle.indexes.specs.declared.layout.Layout.{Layout}
 use Rattle.indexes.specs.declared.layout.Layout.TheVariants.{Bare, Full, Level}
 use Rattle.indexes.specs.Seeking.{halving, bits}
 use Rattle.shapes.specs.Numbers.{shape, least}
-use Rattle.shapes.specs.Nodes.{chunk_at, along, slot_row}
+use Rattle.shapes.specs.Nodes.{along, slot_row}
 use Rattle.shapes.specs.Descent.{descend, descent}
 use Rattle.directories.proofs.Agreeing.{no_chunks}
 use Rattle.worked.specs.Cases.{column_a, one_to_40, Wide, Equal, Rising, Nothing, Sizes, Worked, look_up, place_with}

@@ -5,7 +5,7 @@ use Rattle.keys.specs.declared.account.Account.{Account}
 use Rattle.indexes.specs.declared.index.Side.{Side}
 use Rattle.indexes.specs.declared.index.Side.TheVariants.{At, After}
 use Rattle.indexes.specs.declared.layout.Layout.{Layout}
-use Rattle.indexes.specs.declared.layout.Layout.TheVariants.{Bare, Full, Level}
+use Rattle.indexes.specs.declared.layout.Layout.TheVariants.{Full, Level}
 use Rattle.indexes.specs.Seeking.{Sought}
 use Rattle.shapes.specs.Layouts.{allowed, shape_under, ceiling_under}
 use Rattle.shapes.specs.Nodes.{chunk_at}

@@ -1,8 +1,8 @@
 -- The chunk's part of the column is looked through, from its first row on; at no leaf the place is behind all rows.
-use Rattle.std.proofs.Common.{◌≡◌, ℕ, Option, sym, ap, ◌∙◌, arith}
+use Rattle.std.proofs.Common.{ℕ, Option, sym, ap, ◌∙◌, arith}
 use Rattle.indexes.specs.Seeking.{passed_at}
 use Rattle.shapes.specs.Descent.{at_leaf}
-use Rattle.directories.proofs.Sounds.{chunk, leaf_chunk_below}
+use Rattle.directories.proofs.Sounds.{leaf_chunk_below}
 use Rattle.directories.proofs.Parts.{Leaf, leaf}
 use Rattle.directories.proofs.descent.land.Given as given
 use Rattle.directories.proofs.descent.land.Goals as goal

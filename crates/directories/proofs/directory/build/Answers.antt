@@ -1,4 +1,4 @@
-use Rattle.std.proofs.Common.{◌≡◌, length, sym, ap, ◌∙◌}
+use Rattle.std.proofs.Common.{length, sym, ap, ◌∙◌}
 use Rattle.directories.specs.Slots.{slot_keys}
 use Rattle.directories.proofs.Openings.{over}
 use Rattle.directories.proofs.SlotKeys.{filled_all}

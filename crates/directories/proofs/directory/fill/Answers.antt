@@ -1,6 +1,5 @@
 -- One slot more.
-use Rattle.std.proofs.Common.{◌≡◌, ◌<◌, length, get_or, sym, ap, ◌∙◌, arith}
-use Rattle.directories.specs.Slots.{row_of_slot}
+use Rattle.std.proofs.Common.{get_or, ap, ◌∙◌, arith}
 use Rattle.directories.proofs.SlotKeys.{filled_more}
 use Rattle.directories.proofs.directory.fill.Goals as goal
 

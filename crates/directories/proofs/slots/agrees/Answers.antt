@@ -1,5 +1,5 @@
 -- A slot that differs from the key of its row, or one more that does not.
-use Rattle.std.proofs.Common.{◌≡◌, sym, ◌∙◌, arith, below_more}
+use Rattle.std.proofs.Common.{sym, ◌∙◌, arith, below_more}
 use Rattle.std.proofs.lemmas.Bool.{both_ways}
 use Rattle.directories.proofs.SlotKeys.{read_equivalent}
 use Rattle.directories.proofs.slots.agrees.Goals as goal

@@ -6,7 +6,7 @@ use Rattle.shapes.specs.Nodes.{child, chunk_at, along, last_held, slot_row}
 use Rattle.shapes.proofs.Walk.{along_stop, along_go}
 use Rattle.shapes.proofs.Spans.{slot_below}
 use Rattle.directories.specs.Slots.{Sound}
-use Rattle.directories.proofs.Sounds.{Onward, Slot, facts, slot, onward, leaf_chunk_below}
+use Rattle.directories.proofs.Sounds.{Onward, facts, slot, onward, leaf_chunk_below}
 use Rattle.directories.proofs.slots.slot_row.Goals as goal
 
 pub child_of-node-requires : goal.child_of-node-requires

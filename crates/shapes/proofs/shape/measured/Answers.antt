@@ -1,4 +1,4 @@
-use Rattle.std.proofs.Common.{◌≡◌, ℕ, ◌+◌, ◌-◌, ◌*◌, ◌/◌, ◌^◌, ◌<◌, ◌≤◌, cond, leb, sym, refl, ap, ◌∙◌, mul-le-mul, mul-le-mul_left, pow-suc, div-le_self, add-one, arith, rules}
+use Rattle.std.proofs.Common.{◌≡◌, ◌+◌, ◌-◌, ◌*◌, ◌/◌, ◌^◌, ◌<◌, ◌≤◌, cond, leb, sym, refl, ap, ◌∙◌, mul-le-mul, mul-le-mul_left, pow-suc, div-le_self, add-one, arith}
 use native.Mathlib.Nat.{pow-zero}
 use Rattle.shapes.specs.Numbers.{chunks_of}
 use Rattle.shapes.proofs.Measured.{least_go, measured, late_fits}

@@ -1,5 +1,5 @@
 -- A turn at an internal node, and the landing at a leaf or at no leaf.
-use Rattle.std.proofs.Common.{◌≡◌, ◌+◌, sym, ap, ◌∙◌, arith}
+use Rattle.std.proofs.Common.{◌+◌, ap, ◌∙◌, arith}
 use Rattle.indexes.specs.Seeking.{Sought, passed_at}
 use Rattle.shapes.specs.Descent.{after, descend}
 use Rattle.shapes.specs.Nodes.{child}

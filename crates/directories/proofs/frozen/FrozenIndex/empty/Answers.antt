@@ -1,7 +1,6 @@
 -- No rows are few, and in order.
 use Rattle.std.proofs.Common.{[], refl, arith}
 use Rattle.indexes.specs.declared.layout.Layout.TheVariants.{Bare}
-use Rattle.shapes.specs.Numbers.{one_chunk}
 use Rattle.directories.proofs.Models.{meant}
 use Rattle.directories.proofs.frozen.FrozenIndex.empty.Goals as goal
 

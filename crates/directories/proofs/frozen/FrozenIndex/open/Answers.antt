@@ -1,5 +1,5 @@
 -- Declined by a reason against the column or the number of slots, or by a slot; or accepted.
-use Rattle.std.proofs.Common.{◌≡◌, true, false, length, Err, sym, refl, ap, ◌∙◌, rules}
+use Rattle.std.proofs.Common.{◌≡◌, true, false, length, Err, refl, rules}
 use Rattle.indexes.specs.declared.decline.Decline.TheVariants.{SlotDiffers}
 use Rattle.directories.proofs.Openings.{over, declined, unfit_opening, decided_opening, accepted}
 use Rattle.directories.proofs.SlotKeys.{compared}

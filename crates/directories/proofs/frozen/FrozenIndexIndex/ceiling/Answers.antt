@@ -1,7 +1,7 @@
 -- The shape's ceiling is its layout's.
-use Rattle.std.proofs.Common.{◌≡◌, length, ◌∙◌}
+use Rattle.std.proofs.Common.{length, ◌∙◌}
 use Rattle.directories.specs.Frozen.{column_of}
-use Rattle.directories.proofs.Models.{Ceiling, ceiling}
+use Rattle.directories.proofs.Models.{ceiling}
 use Rattle.directories.proofs.frozen.FrozenIndexIndex.ceiling.Goals as goal
 
 pub most_comparisons-requires : goal.most_comparisons-requires

@@ -1,8 +1,8 @@
 -- The tests passed, so the shape is that of an allowed layout, and keeps the laws.
-use Rattle.std.proofs.Common.{◌≡◌, true, sym, ap, ◌∙◌, arith, rules}
+use Rattle.std.proofs.Common.{sym, ap, ◌∙◌}
 use Rattle.shapes.specs.Layouts.{allowed, shape_under}
 use Rattle.shapes.proofs.Sizes.{full_measurable, level_measurable}
-use Rattle.shapes.proofs.Trees.{ShapedBy, shaped_by}
+use Rattle.shapes.proofs.Trees.{shaped_by}
 use Rattle.shapes.proofs.shape.Shape.of.Goals as goal
 
 pub returns-in-Bare : goal.returns-in-Bare
