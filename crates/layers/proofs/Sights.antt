@@ -2,7 +2,7 @@
 use Rattle.std.proofs.Common.{◌≡◌, ℕ, zero, suc, ◌+◌, ◌-◌, ◌<◌, ◌≤◌, Bool, true, false, cond, not, List, [], ◌∷◌, length, get_or, sym, refl, ap, ◌∙◌, subst, ⊎_elim, add-zero, add-one, arith}
 use Rattle.std.proofs.lemmas.Bool.{lt-ltb, le-ltb, eq-eqb, ne_eqb, cases_order, cases_lt, cases_Bool, not-false}
 use Rattle.std.proofs.ByRecursion.{All-weaker, All-get_or}
-use Rattle.std.specs.List.{AllByRecursion as All}
+use Rattle.std.specs.List.{AllByRecursion}
 use Rattle.keys.specs.Order.{Lawful}
 use Rattle.keys.specs.Orders.{laws}
 use Rattle.indexes.specs.Meaning.{count, passed, place_of, Ordered, Meaning, Meant}
@@ -129,7 +129,7 @@ sighted_past out xs r j le e =
 
 abbrev pub Sorted : {K : Type 0} → (K → K → Bool) → List K → Type 0
 Sorted before [] = Unit {0}
-Sorted before (x ∷ xs) = All (λ y. before y x ≡ false) xs × Sorted before xs
+Sorted before (x ∷ xs) = AllByRecursion (λ y. before y x ≡ false) xs × Sorted before xs
 
 module _ {K : Type 0} (before : K → K → Bool) (lawful : Lawful before) where
   pub sorted : (xs : List K) → Ordered before xs → Sorted before xs
@@ -148,12 +148,12 @@ module _ {K : Type 0} (before : K → K → Bool) (lawful : Lawful before) where
       next (x ∷ xs) s zero d l = All-get_or (λ y. before y x ≡ false) xs 0 d (omega arith) s.0
       next (x ∷ xs) s (suc i) d l = next xs s.1 i d (omega arith)
 
-  all_sighted : (P : K → Type 0) (out : ℕ → Bool) (xs : List K) → All P xs → All P (sighted out xs)
+  all_sighted : (P : K → Type 0) (out : ℕ → Bool) (xs : List K) → AllByRecursion P xs → AllByRecursion P (sighted out xs)
   all_sighted P out [] a = tt
   all_sighted P out (x ∷ xs) a =
       let rest = λ (i : ℕ). out (suc i) in
       let ih = all_sighted P rest xs a.1 in
-      elim (out 0) as (λ b. All P (cond b (sighted rest xs) (x ∷ sighted rest xs))) [ true ↦ ih | false ↦ (a.0, ih) ]
+      elim (out 0) as (λ b. AllByRecursion P (cond b (sighted rest xs) (x ∷ sighted rest xs))) [ true ↦ ih | false ↦ (a.0, ih) ]
 
   pub sorted_sighted : (out : ℕ → Bool) (xs : List K) → Sorted before xs → Sorted before (sighted out xs)
   sorted_sighted out [] s = tt
@@ -162,7 +162,7 @@ module _ {K : Type 0} (before : K → K → Bool) (lawful : Lawful before) where
       let ih = sorted_sighted rest xs s.1 in
       elim (out 0) as (λ b. Sorted before (cond b (sighted rest xs) (x ∷ sighted rest xs))) [ true ↦ ih | false ↦ (all_sighted (λ y. before y x ≡ false) rest xs s.0, ih) ]
 
-  none_passed : (p : K → Bool) (xs : List K) → All (λ y. p y ≡ false) xs → count p xs ≡ 0
+  none_passed : (p : K → Bool) (xs : List K) → AllByRecursion (λ y. p y ≡ false) xs → count p xs ≡ 0
   none_passed p [] a = refl
   none_passed p (x ∷ xs) a = rw (a.0, none_passed p xs a.1) refl
 

@@ -1,7 +1,7 @@
 -- What is written is read, and what is read was written so: the relation and the grammar agree on bytes. Assumes nothing.
 use Rattle.std.proofs.Common.{◌≡◌, ℕ, zero, suc, ◌+◌, ◌-◌, ◌*◌, ◌/◌, ◌%◌, ◌<◌, ◌≤◌, cond, leb, List, [], ◌∷◌, ◌++◌, length, take, drop, Some, None, sym, refl, ap, ◌∙◌, subst, append_assoc, div-add-mod', arith, length-append, take-append-drop}
 use lib.Arith.{digits_div, digits_mod}
-use Rattle.std.specs.List.{flat_map, AllByRecursion as All}
+use Rattle.std.specs.List.{flat_map, AllByRecursion}
 use Rattle.std.proofs.lemmas.List.{length-take-le, take_at, drop_at}
 use Rattle.std.proofs.lemmas.Bool.{le-leb, leb-true}
 use Rattle.sheets.specs.declared.reader.Stage.{Stage}
@@ -44,7 +44,7 @@ spells_read bs fs h =
     (wrote fs stage.Start 0 (length (flat_map framed fs)) (length (flat_map framed fs)) (ordered_runs fs h.ordered) h.placed (omega arith) (omega arith))
 
 abbrev pub Bytes : List ℕ → Type 0
-Bytes bs = All (λ b. b < 256) bs
+Bytes bs = AllByRecursion (λ b. b < 256) bs
 
 bytes_back : (xs ys : List ℕ) → Bytes (xs ++ ys) → Bytes ys
 bytes_back [] ys w = w
@@ -102,7 +102,7 @@ read_spells bs fs w e =
     record { small = leb-true (length bs) 65536 c.0; ordered = runs_ordered fs r.runs; placed = r.placed; bytes = r.bytes }
 
 -- after the bytes xs, each of fs lies at its place
-places : (xs : List ℕ) (fs : List Piece) → Placed (length xs) fs → All (Within (xs ++ flat_map framed fs)) fs
+places : (xs : List ℕ) (fs : List Piece) → Placed (length xs) fs → AllByRecursion (Within (xs ++ flat_map framed fs)) fs
 places xs [] at = tt
 places xs (f ∷ fs) at =
     let v = f.value in
@@ -122,7 +122,7 @@ places xs (f ∷ fs) at =
     let ld = length-append v rest in
     let inside : f.place + length v ≤ length (xs ++ (framed f ++ rest)) = omega arith in (
       (inside, sym (ap (take (length v)) off ∙ take_at v rest _ refl)),
-      subst (λ (l : List ℕ). All (Within l) fs) same' (places (before ++ v) fs (subst (λ p. Placed p fs) there at.1)),
+      subst (λ (l : List ℕ). AllByRecursion (Within l) fs) same' (places (before ++ v) fs (subst (λ p. Placed p fs) there at.1)),
     )
 
 pub spelled : (bs : List ℕ) (fs : List Piece) → Bytes bs → fields bs ≡ Some fs → Spelled bs fs
@@ -130,6 +130,6 @@ spelled bs fs w e =
     let h = read_spells bs fs w e in
     record {
       spells = h;
-      within = subst (λ (l : List ℕ). All (Within l) fs) h.bytes (places [] fs h.placed);
+      within = subst (λ (l : List ℕ). AllByRecursion (Within l) fs) h.bytes (places [] fs h.placed);
       alone = λ gs k. some_same gs fs (sym (spells_read bs gs k) ∙ e);
     }

@@ -1,6 +1,6 @@
 -- The stages let pass exactly a directory, then a column, then calls over its keys. Assumes nothing.
 use Rattle.std.proofs.Common.{◌≡◌, ℕ, ◌/◌, ◌%◌, Bool, true, eqb, List, [], ◌∷◌, length, Some, sym, refl, ap, ◌∙◌, subst, ⊎_elim, arith}
-use Rattle.std.specs.List.{AllByRecursion as All}
+use Rattle.std.specs.List.{AllByRecursion}
 use Rattle.std.proofs.lemmas.Bool.{eq-eqb, eqb-true, cases_Bool}
 use Rattle.std.proofs.lemmas.Bool.Decides.{nat_tests}
 use Rattle.sheets.specs.declared.field.Kind.{Kind}
@@ -115,11 +115,11 @@ over_ends : {w : ℕ} {s : Stage} → Over w s → ended s ≡ Some []
 over_ends over_accounts = refl
 over_ends over_labels = refl
 
-calls_run : {w : ℕ} {s : Stage} → Over w s → (fs : List Piece) → All (λ f. Calls w f.kind f.value) fs → Runs s fs
+calls_run : {w : ℕ} {s : Stage} → Over w s → (fs : List Piece) → AllByRecursion (λ f. Calls w f.kind f.value) fs → Runs s fs
 calls_run o [] h = over_ends o
 calls_run {w} {s} o (f ∷ fs) h = (s, over_next o f.kind f.value ∙ called s w f.kind f.value h.0, calls_run o fs h.1)
 
-run_calls : {w : ℕ} {s : Stage} → Over w s → (fs : List Piece) → Runs s fs → All (λ f. Calls w f.kind f.value) fs
+run_calls : {w : ℕ} {s : Stage} → Over w s → (fs : List Piece) → Runs s fs → AllByRecursion (λ f. Calls w f.kind f.value) fs
 run_calls o [] r = tt
 run_calls {w} {s} o (f ∷ fs) r =
     let c = calls s w f.kind f.value r.0 (sym (over_next o f.kind f.value) ∙ r.1) in

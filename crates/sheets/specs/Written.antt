@@ -1,6 +1,6 @@
 -- A sheet as it is written: which fields make a sheet, which bytes they are, and what a reading owes to both. Assumes nothing.
 use Rattle.std.specs.Prelude.{◌≡◌, ℕ, ◌+◌, ◌*◌, ◌/◌, ◌%◌, ◌≤◌, List, [], ◌∷◌, length, take, drop, IfOk, Some, None, vec_items, Option, Result, Vec}
-use Rattle.std.specs.List.{flat_map, AllByRecursion as All}
+use Rattle.std.specs.List.{flat_map, AllByRecursion}
 use Rattle.sheets.specs.declared.field.Kind.{Kind}
 use Rattle.sheets.specs.declared.field.Kind.TheVariants.{Directory, Accounts, Labels, Strike, Restore, Place}
 use Rattle.sheets.specs.declared.sheet.Sheet.{Sheet}
@@ -29,7 +29,7 @@ pub data Calls : ℕ → Kind → List ℕ → Type 0 where
 
 -- fields that are calls over keys of w bytes
 abbrev pub CallsOver : ℕ → List Piece → Type 0
-CallsOver w calls = All (λ f. Calls w f.kind f.value) calls
+CallsOver w calls = AllByRecursion (λ f. Calls w f.kind f.value) calls
 
 -- a directory, then one column, then calls over its keys
 abbrev pub Ordered : List Piece → Type 0
@@ -61,7 +61,7 @@ Within bs f = (f.place + length f.value ≤ length bs) × (f.value ≡ take (len
 -- fs, and no other fields, are what bs spell
 pub record Spelled (bs : List ℕ) (fs : List Piece) : Type 0 where
   pub spells : Spells bs fs
-  pub within : All (Within bs) fs
+  pub within : AllByRecursion (Within bs) fs
   pub alone : (gs : List Piece) → Spells bs gs → gs ≡ fs
 
 -- all fields of a sheet
