@@ -42,7 +42,7 @@ impl Findings {
         builds::written(&mut self.slots, heap, &case)?;
         builds::declined(&mut self.builds, heap, &case)?;
         openings::declined(&mut self.openings, heap, &case, random)?;
-        opened(&mut self.found, &case, case.slots.as_slice(), random);
+        opened(&mut self.found, heap, &case, case.slots.as_slice(), random)?;
         respelled::tried(&mut self.respelled, heap, &case, random)
     }
 

@@ -4,18 +4,17 @@ use crate::kind::Made;
 use directories::FrozenIndex;
 use indexes::{Index, Layout, Side};
 use keys::Key;
+use std::alloc::{AllocError, Global};
 
 const LAYOUT: Layout = Layout::Full { slots: 2 };
 
-// Five rows, no two of them equivalent.
-fn five_rows<K: Made>() -> [K; 5] {
-    [
-        K::made(7, 0),
-        K::made(8, 0),
-        K::made(20, 0),
-        K::made(30, 0),
-        K::made(31, 0),
-    ]
+// Keys made of these numbers.
+pub fn made_of<K: Key + Made>(heap: Global, numbers: &[u32]) -> Result<Vec<K>, AllocError> {
+    let mut keys = Vec::new(heap);
+    for number in numbers {
+        keys.push(K::made(*number, 0))?;
+    }
+    Ok(keys)
 }
 
 // Has the index these rows, no two of them equivalent, and finds each?
@@ -39,12 +38,25 @@ fn has<K: Key + Made, I: Index<K>>(index: &I, rows: &[K]) -> bool
 }
 
 // Is this opening declined for this reason, and has the index still what it had?
-pub fn is_left<K: Key + Made>(column: &[K], layout: Layout, slots: &[K], number: u8) -> bool {
-    let rows = five_rows();
+pub fn is_left<K: Key + Made>(
+    heap: Global,
+    column: &[K],
+    layout: Layout,
+    slots: &[K],
+    number: u8,
+) -> Result<bool, AllocError> {
+    let rows: Vec<K> = made_of(heap, &[7, 8, 20, 30, 31])?;
     // a root with three chunks: its slots are the last rows of the first two
-    let its_slots = [rows[1], rows[3]];
+    let its_slots = made_of(heap, &[8, 30])?;
     let mut index = FrozenIndex::empty();
-    let is_open = index.open(&rows, LAYOUT, &its_slots).is_ok();
+    let is_open = index
+        .open(rows.as_slice(), LAYOUT, its_slots.as_slice())
+        .is_ok();
     let answer = index.open(column, layout, slots);
-    is_open && is_declined(answer, number) && index.layout() == LAYOUT && has(&index, &rows)
+    Ok(
+        is_open
+            && is_declined(answer, number)
+            && index.layout() == LAYOUT
+            && has(&index, rows.as_slice()),
+    )
 }

@@ -45,12 +45,12 @@ pub fn tried(heap: Global) -> Result<Tally, AllocError> {
         for layout in LAYOUTS {
             tally.note(slot_count(layout, column.len()) == Err(Decline::TooManyRows));
             tally.note(is_not_built(column, layout, 2));
-            tally.note(is_left(column, layout, &[], 2));
+            tally.note(is_left(heap, column, layout, &[], 2)?);
         }
         for layout in NOT_ALLOWED {
             tally.note(slot_count(layout, column.len()) == Err(Decline::NodeSize));
             tally.note(is_not_built(column, layout, 1));
-            tally.note(is_left(column, layout, &[], 1));
+            tally.note(is_left(heap, column, layout, &[], 1)?);
         }
     }
     Ok(tally)

@@ -1,12 +1,14 @@
 // Places and comparisons of an index that opened.
 use crate::case::{Case, stranger};
 use crate::declined::{NOT_ALLOWED, is_declined};
+use crate::held::made_of;
 use crate::kind::Made;
 use crate::random::Random;
 use crate::tally::Tally;
 use directories::FrozenIndex;
 use indexes::{Index, Side};
 use keys::Key;
+use std::alloc::{AllocError, Global};
 use std::io;
 
 // What was found of the rows of an index, of its places, and of their comparisons.
@@ -78,26 +80,29 @@ fn places<K: Key + Made, I: Index<K>>(
 // Opens the case with these slots, tries other openings that are declined, and looks up its keys.
 pub fn opened<K: Key + Made>(
     found: &mut Found,
+    heap: Global,
     case: &Case<'_, K>,
     slots: &[K],
     random: &mut Random,
-) {
+) -> Result<(), AllocError> {
     let keys = case.column.keys.as_slice();
-    let other = [K::made(9, 0), K::made(3, 0)];
+    let other: Vec<K> = made_of(heap, &[9, 3])?;
+    let other = other.as_slice();
     let mut index = FrozenIndex::empty();
     found
         .rows
         .note(index.open(keys, case.layout, slots).is_ok());
     found
         .rows
-        .note(is_declined(index.open(&other, case.layout, &other), 3));
+        .note(is_declined(index.open(other, case.layout, other), 3));
     found
         .rows
-        .note(is_declined(index.open(&[], case.layout, &other), 4));
+        .note(is_declined(index.open(&[], case.layout, other), 4));
     found
         .rows
         .note(is_declined(index.open(&[], NOT_ALLOWED[1], slots), 1));
     found.rows.note(index.layout() == case.layout);
     rows(&mut found.rows, &index, keys);
     places(found, &index, case, random);
+    Ok(())
 }

@@ -18,17 +18,17 @@ fn misfits<K: Key + Made>(
     let slots = case.slots.as_slice();
     let more: Vec<K> = strangers(heap, slots.len().saturating_add(1))?;
     let more = more.as_slice();
-    tally.note(is_left(keys, case.layout, more, 4));
+    tally.note(is_left(heap, keys, case.layout, more, 4)?);
     if let [_, fewer @ ..] = slots {
-        tally.note(is_left(keys, case.layout, fewer, 4));
+        tally.note(is_left(heap, keys, case.layout, fewer, 4)?);
     }
     if let Some(fallen) = &case.column.fallen {
-        tally.note(is_left(fallen.as_slice(), case.layout, slots, 3));
-        tally.note(is_left(fallen.as_slice(), case.layout, more, 3));
-        tally.note(is_left(fallen.as_slice(), NOT_ALLOWED[0], more, 1));
+        tally.note(is_left(heap, fallen.as_slice(), case.layout, slots, 3)?);
+        tally.note(is_left(heap, fallen.as_slice(), case.layout, more, 3)?);
+        tally.note(is_left(heap, fallen.as_slice(), NOT_ALLOWED[0], more, 1)?);
     }
     for layout in NOT_ALLOWED {
-        tally.note(is_left(keys, layout, slots, 1));
+        tally.note(is_left(heap, keys, layout, slots, 1)?);
     }
     Ok(())
 }
@@ -49,7 +49,7 @@ fn changed<K: Key + Made>(
             *slot = K::made(other, random.next());
         }
         let keys = case.column.keys.as_slice();
-        tally.note(is_left(keys, case.layout, slots.as_slice(), 5));
+        tally.note(is_left(heap, keys, case.layout, slots.as_slice(), 5)?);
     }
     Ok(())
 }

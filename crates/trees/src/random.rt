@@ -26,8 +26,9 @@ impl Random {
 
     // A full directory with 2 to 64 slots to a node.
     pub fn full(&mut self) -> Layout {
+        let drawn = u8::try_from(self.below(63)).unwrap_or(0);
         Layout::Full {
-            slots: self.below(63) as u8 + 2,
+            slots: drawn.saturating_add(2),
         }
     }
 

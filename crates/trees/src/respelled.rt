@@ -22,7 +22,7 @@ pub fn tried<K: Key + Made>(
         slots.push(respelled)?;
     }
     if differ {
-        opened(found, case, slots.as_slice(), random);
+        opened(found, heap, case, slots.as_slice(), random)?;
     }
     Ok(())
 }

@@ -141,34 +141,43 @@ fn few_rows(tally: &mut Tally, heap: Global) -> Result<(), AllocError> {
     )
 }
 
-// The rows 1 to 40: with nodes that are no leaf, and with leaves on two levels.
-fn forty_rows(tally: &mut Tally, heap: Global) -> Result<(), AllocError> {
-    let mut rows = Vec::new(heap);
-    for number in 1..=40 {
-        rows.push(number)?;
-    }
+// The rows 1 to 40, with nodes that are no leaf.
+fn forty_rows_full(tally: &mut Tally, heap: Global, rows: &[u32]) -> Result<(), AllocError> {
     tried_one(
         tally,
         heap,
         &Worked {
-            rows: rows.as_slice(),
+            rows,
             layout: Layout::Full { slots: 3 },
             slots: &[12, 24, 36, 3, 6, 9, 15, 18, 21, 27, 30, 33, 39, 40, 40],
             ceiling: 6,
             descents: &[at(41, 40, 4), after(40, 40, 4)],
         },
-    )?;
+    )
+}
+
+// The rows 1 to 40, with leaves on two levels.
+fn forty_rows_level(tally: &mut Tally, heap: Global, rows: &[u32]) -> Result<(), AllocError> {
     tried_one(
         tally,
         heap,
         &Worked {
-            rows: rows.as_slice(),
+            rows,
             layout: Layout::Level { slots: 4 },
             slots: &[16, 32, 36, 40, 4, 8, 12, 16, 20, 24, 28, 32],
             ceiling: 7,
             descents: &[at(17, 16, 7)],
         },
     )
+}
+
+fn forty_rows(tally: &mut Tally, heap: Global) -> Result<(), AllocError> {
+    let mut rows = Vec::new(heap);
+    for number in 1..=40 {
+        rows.push(number)?;
+    }
+    forty_rows_full(tally, heap, rows.as_slice())?;
+    forty_rows_level(tally, heap, rows.as_slice())
 }
 
 // Slots are counted without a column too: sixteen nodes over 65 chunks of four rows; and the most rows there may be.

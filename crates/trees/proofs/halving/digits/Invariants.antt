@@ -1,0 +1,4 @@
+use Rattle.trees.proofs.halving.digits.Given as goal
+
+abbrev pub decreases-loop-left : goal.decreases-loop-left
+decreases-loop-left l = l.left
