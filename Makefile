@@ -2,9 +2,9 @@
 .PHONY: run test
 
 run:
-	rt check sheet
-	target/bin/sheet < samples/ledger.sheet > target/ledger.answers
-	samples/show samples/ledger.sheet target/ledger.answers
+	cd crates/sheet && rt run > /dev/null
+	crates/sheet/out/sheet < samples/ledger.sheet > crates/sheet/out/ledger.answers
+	samples/show samples/ledger.sheet crates/sheet/out/ledger.answers
 
 test:
 	.ci/run
