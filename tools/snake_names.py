@@ -8,7 +8,7 @@ The goals that the checker names, and the library's own lemmas, keep their dashe
 function's name ends in `_lem`.
 
 It was run once, behind the kit's own script, when the repository came to the Rattle that README names. It stops
-before it writes anything where two names would fall together.
+before it writes anything where two of the renamed would fall together, and prints each new name that stood already.
 """
 import os
 import re

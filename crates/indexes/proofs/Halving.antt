@@ -1,5 +1,7 @@
 -- The rounds of halving: how they go on, where they end, and how many there can be.
-use Rattle.std.proofs.Common.{◌≡◌, ℕ, zero, suc, ◌+◌, ◌-◌, ◌*◌, ◌^◌, ◌<◌, ◌≤◌, Bool, true, false, cond, ltb, sym, refl, ap, ◌∙◌, subst, inl, inr, pow-suc, arith, pow_mono}
+use Rattle.std.proofs.Common.{◌≡◌, ℕ, zero, suc, ◌+◌, ◌-◌, ◌*◌, ◌^◌, ◌<◌, ◌≤◌, Bool, true, false, cond, ltb, sym, refl, ap, ◌∙◌, subst, inl, inr, pow-suc, arith, pow_mono, w64}
+use lib.Count.{leading_length}
+use Rattle.std.specs.Int.{leading_zeros}
 use Rattle.std.specs.Int.Digits.{digits_of}
 use Rattle.std.proofs.lemmas.Int.Digits.{number_lt, all_below_base_digits_of, number_digits_of, length-digits_of-le}
 use Rattle.std.proofs.lemmas.Bool.{cases_lt, cases_Bool, cond-true, cond-false, lt-ltb, le-ltb, both_ways}
@@ -119,3 +121,10 @@ bits_is n m lt le =
           let d : 2 ^ suc (bits n) ≡ 2 ^ bits n * 2 = pow-suc 2 (bits n) in
           absurd (omega arith)
     ]
+
+-- the leading zeros of a word of 64 digits, and the digits of its number, are 64
+pub bits_beside_zeros : (n : ℕ) → n < 2 ^ 64 → leading_zeros w64 n + bits n ≡ 64
+bits_beside_zeros n h =
+    let l = leading_length 64 n h in
+    let e = bits_is n l.0 l.2 l.3 in
+    omega (arith, l.1)

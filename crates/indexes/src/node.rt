@@ -17,6 +17,7 @@ fn passes<K: Key>(row: &K, key: &K, side: Side) -> bool
 }
 
 // How many binary digits the number has; none for 0.
+#[tactic(auto, using(crate::proofs::Halving::bits_beside_zeros))]
 pub fn bits_of(n: usize) -> u32
     ensures { result ≡ bits n }
 {
