@@ -1,5 +1,5 @@
 #!/usr/bin/env python3
-"""snake_names.py [FOLDER]: spells the repository's own definitions and lemmas as Rattle spells words.
+"""snake_names.py [FOLDER [--list]]: spells the repository's own definitions and lemmas as Rattle spells words.
 
 A word joined by dashes becomes snake case, and one that begins with a capital (a fact or a type) camel case:
 `passed-at` is `passed_at`, `Same-below` is `SameBelow`. What is renamed is what the files of specs/ and proofs/
@@ -7,8 +7,8 @@ below FOLDER (this folder, if none is named) define themselves: definitions, lem
 The goals that the checker names, and the library's own lemmas, keep their dashes. A word that would have its
 function's name ends in `_lem`.
 
-It was run once, behind the kit's own script, when the repository came to the Rattle that README names. It stops
-before it writes anything where two of the renamed would fall together, and prints each new name that stood already.
+It was run once, behind the toolchain's own script, when the repository came to the Rattle that README names. It stops
+before it writes anything where two of the renamed would fall together, and prints each new name that stood already. With --list it prints the new names and writes nothing.
 """
 import os
 import re

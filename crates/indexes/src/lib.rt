@@ -3,10 +3,10 @@
 // `Index<K>` is the trait that everything above is written against. An index means three things (its ghost member
 // `means`): rows in order, a number of comparisons for each key and side, and a ceiling on these. Its methods `len`,
 // `ceiling`, `row` and `place` answer exactly by that meaning. Its ghost member `opened` is what an implementation
-// needs to answer at all; constructors and `open` establish it, and no safe code reaches an index without it.
+// needs to answer at all; constructors and `open` establish it, and a call for which it is not shown is refused.
 //
 // `FrozenIndex` is a sorted column that no longer changes, with its `Layout`: today the bare column, in which a place
-// is sought by halving. `seek` does that: its place, its comparisons, and how many they can be are exact.
+// is sought by halving. `seek` does that: its place, its comparisons, and how many they can be (`bits_of`) are exact.
 // `Decline` lists every reason for which a call of the whole library is declined, with its number.
 // `&I` is an index where `I` is.
 //

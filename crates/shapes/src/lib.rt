@@ -4,7 +4,7 @@
 // and `Shape::of` computes them for a layout and a number of rows, or declines. `slot_count` tells how many slots the
 // directory has. A bare column is the shape of one chunk, without a node.
 //
-// `Shape::of` promises the numbers that docs/RULES.md defines (specs/Numbers.antt), and the laws of the tree that they
+// `Shape::of` promises the numbers that docs/DIRECTORIES.md defines (specs/Numbers.antt), and the laws of the tree that they
 // give (specs/Laws.antt): its leaves are the chunks, each once and in their order; each slot is the last row under its
 // child; a descent ends at the boundary between the rows passed and the others, within the ceiling.
 //

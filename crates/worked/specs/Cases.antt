@@ -19,7 +19,7 @@ account n = record { number = n }
 abbrev pub smaller : Account → Account → Bool
 smaller a b = nat_lt a.number b.number
 
--- column A, and columns B and C
+-- column A, and the numbers from 1 to 40
 abbrev pub column_a : List Account
 column_a = map account (10 ∷ 20 ∷ 20 ∷ 30 ∷ 40 ∷ 50 ∷ 50 ∷ 50 ∷ 60 ∷ [])
 
@@ -55,7 +55,7 @@ pub record Equal (column : List Account) : Type 0 where
   pub at_61 : look_up (Full 2) column 61 At ≡ place_with 9 2
   pub ceiling : ceiling_under (Full 2) (length column) ≡ 6
 
--- of 1 to 40: column B under a full directory with m = 3, and column C under a level one with m = 4
+-- of 1 to 40: under a full directory with m = 3, and under a level one with m = 4
 pub record Rising (column : List Account) : Type 0 where
   pub rows : column ≡ one_to_40
   pub node_4 : node_slots 3 4 (slots_under (Full 3) column) ≡ map account (39 ∷ 40 ∷ 40 ∷ [])

@@ -1,7 +1,7 @@
 // The columns worked by hand, and one theorem with all that was worked out over them.
 //
-// `worked_columns` gives the columns of docs/RULES.md. Its contract says of them, jointly and of the definitions themselves, the
-// shapes, slots, places, comparisons and ceilings that the rules give as examples: whoever doubts that a definition says
+// `worked_columns` gives the columns of docs/DIRECTORIES.md. Its contract says of them, jointly and of the definitions themselves, the
+// most of the shapes, slots, places, comparisons and ceilings that the rules give as examples: whoever doubts that a definition says
 // what the rules do finds here what it comes to. Nothing else stands on this crate.
 // It stands on the definitions of shapes (crate `shapes`) and of frozen columns (`directories`).
 
@@ -15,7 +15,7 @@ use keys::Account;
 pub struct Columns {
     // column A: with equal rows
     pub equal: [Account; 9],
-    // columns B and C: the numbers from 1 to 40
+    // the numbers from 1 to 40
     pub rising: [Account; 40],
 }
 
