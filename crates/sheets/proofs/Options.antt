@@ -1,5 +1,5 @@
 -- What is known of the parts once `bind` or a test gave a value. Assumes nothing.
-use Rattle.std.proofs.Common.{◌≡◌, ℕ, Bool, true, false, cond, is_some as option_is_some, Some, None, Option, unwrap_or, refl, ap, arith}
+use Rattle.std.proofs.Common.{◌≡◌, ℕ, Bool, true, false, cond, is_some, Some, None, Option, unwrap_or, refl, ap, arith}
 use Rattle.std.proofs.lemmas.Bool.Decides.{nat_tests}
 use Rattle.sheets.specs.Grammar.{bind}
 
@@ -22,15 +22,15 @@ pub bind_same : {A B : Type 0} (o : Option A) (f g : A → Option B) → ((a : A
 bind_same None f g h = refl
 bind_same (Some a) f g h = h a refl
 
-pub is_none : {A : Type 0} (o : Option A) → false ≡ option_is_some o → o ≡ None
-is_none None e = refl
-is_none (Some x) e = absurd (grind (arith, nat_tests))
+pub none_tested : {A : Type 0} (o : Option A) → false ≡ is_some o → o ≡ None
+none_tested None e = refl
+none_tested (Some x) e = absurd (grind (arith, nat_tests))
 
-pub is_some : {A : Type 0} (o : Option A) → true ≡ option_is_some o → (x : A) × (o ≡ Some x)
-is_some None e = absurd (grind (arith, nat_tests))
-is_some (Some x) e = (x, refl)
+pub some_tested : {A : Type 0} (o : Option A) → true ≡ is_some o → (x : A) × (o ≡ Some x)
+some_tested None e = absurd (grind (arith, nat_tests))
+some_tested (Some x) e = (x, refl)
 
 -- what is taken out of a value that is there
-pub value_some : {A : Type 0} (o : Option A) (a x : A) → true ≡ option_is_some o → x ≡ unwrap_or o a → Some x ≡ o
+pub value_some : {A : Type 0} (o : Option A) (a x : A) → true ≡ is_some o → x ≡ unwrap_or o a → Some x ≡ o
 value_some None a x e h = absurd (grind (arith, nat_tests))
 value_some (Some y) a x e h = ap Some h

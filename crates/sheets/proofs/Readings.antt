@@ -1,5 +1,5 @@
 -- What the first two fields, and the test of the rest, say of the sheet: what `Sheet::read` owes at each exit. Assumes nothing.
-use Rattle.std.proofs.Common.{◌≡◌, ℕ, suc, ◌≤◌, true, false, cond, List, [], ◌∷◌, length, get_or, is_some as option_is_some, Some, None, Option, sym, refl, ap, ◌∙◌, subst, arith, w8, Fits}
+use Rattle.std.proofs.Common.{◌≡◌, ℕ, suc, ◌≤◌, true, false, cond, List, [], ◌∷◌, length, get_or, is_some, Some, None, Option, sym, refl, ap, ◌∙◌, subst, arith, w8, Fits}
 use Rattle.std.specs.Option.{option_map}
 use Rattle.std.proofs.lemmas.Bool.{le-leb}
 use Rattle.sheets.specs.declared.field.Field.{Field}
@@ -13,7 +13,7 @@ use Rattle.sheets.specs.Fields.{Piece, piece, told}
 use Rattle.sheets.specs.Grammar.{is, when, bind, next, State, state, Step, opened, step, ended, left, fields, Said, said, sheet, column_of, col, viewed}
 use Rattle.sheets.specs.Written.{Chooses, by_full, by_level, by_none, Holds, accounts, labels, listed, WrittenAs}
 use Rattle.sheets.proofs.Left.{left_step, left_stop}
-use Rattle.sheets.proofs.Options.{none_some, some_same, is_none, is_some}
+use Rattle.sheets.proofs.Options.{none_some, some_same, none_tested, some_tested}
 use Rattle.sheets.proofs.Spelled.{Bytes, spells_read, spelled}
 use Rattle.sheets.proofs.Stages.{chooses, holds}
 use Rattle.sheets.proofs.Steps.{taken}
@@ -108,13 +108,13 @@ module _ (bs : List ℕ) (small : length bs ≤ 65536) (q : State) (start : q �
           ∙ ap (λ o. bind o (λ fs. Some (t.read ∷ fs))) (left_step t.then u second)
           ∙ before t.read u.read (left u.then)
 
-      pub no_rest : false ≡ option_is_some (left u.then) → fields bs ≡ None
-      no_rest e = fields_last ∙ ap (λ o. bind o (λ fs. Some (t.read ∷ u.read ∷ fs))) (is_none (left u.then) e)
+      pub no_rest : false ≡ is_some (left u.then) → fields bs ≡ None
+      no_rest e = fields_last ∙ ap (λ o. bind o (λ fs. Some (t.read ∷ u.read ∷ fs))) (none_tested (left u.then) e)
 
       -- the whole is read
-      pub all : (r : Sheet) → Bytes bs → piece Directory r.directory ≡ t.read → Some (col r.column) ≡ column_of u.read → state r.calls ≡ u.then → true ≡ option_is_some (left u.then) → Owed bs (Some r)
+      pub all : (r : Sheet) → Bytes bs → piece Directory r.directory ≡ t.read → Some (col r.column) ≡ column_of u.read → state r.calls ≡ u.then → true ≡ is_some (left u.then) → Owed bs (Some r)
       all r w d c calls e =
-          let rest = is_some (left u.then) e in
+          let rest = some_tested (left u.then) e in
           let same : col r.column ≡ u.read = some_same _ _ (c ∙ columns) in
           some bs r (record { directory = t.read; column = u.read; calls = rest.0 }) w
           ((λ i. bind (left (calls i)) (λ fs. Some (record { directory = d i; column = same i; calls = fs }))) ∙ ap (λ o. bind o (λ fs. Some (record { directory = t.read; column = u.read; calls = fs }))) rest.1)

@@ -6,7 +6,7 @@ use Rattle.sheets.specs.declared.field.Kind.{Kind}
 use Rattle.sheets.specs.declared.reader.Stage.{Stage}
 use Rattle.sheets.specs.Fields.{kind, Piece}
 use Rattle.sheets.specs.Grammar.{next, moved, step_at, step, value_step, bind, Step, State, front, onward}
-use Rattle.sheets.proofs.Options.{none_some, some_same, bind_parts, when_parts, is_none}
+use Rattle.sheets.proofs.Options.{none_some, some_same, bind_parts, when_parts, none_tested}
 
 stepped : (s : Stage) (z : ℕ) (xs : List ℕ) → 3 ≤ length xs → step_at s z xs ≡ value_step s z (get_or xs 0 0) (get_or xs 1 0 * 256 + get_or xs 2 0) (drop 3 xs)
 stepped s z [] h = absurd (omega arith)
@@ -41,7 +41,7 @@ module _ (s : Stage) (z : ℕ) {xs : List ℕ} {k : Kind} {n : ℕ} {v rest : Li
       ∙ sym (stepping ∙ rw (← e))
 
   pub refused : false ≡ is_some (next s k v) → None ≡ step_at s z xs
-  refused e = sym (stepping ∙ rw (is_none (next s k v) e))
+  refused e = sym (stepping ∙ rw (none_tested (next s k v) e))
 
 -- a step took a head of three bytes and a value off the front
 pub record Taken (s : Stage) (z : ℕ) (bs : List ℕ) (t : Step) : Type 0 where
@@ -92,7 +92,7 @@ shorter {s} {z} {bs} {t} g =
 -- a reader that a field did not move is where it was
 pub still : (q q' : State) (k : Kind) (v : List ℕ) → None ≡ step q → false ≡ is_some (next q.stage k v) → q'.stage ≡ moved q.stage k v → q'.whole ≡ q.whole → q'.rest ≡ q.rest → q' ≡ onward q
 still q q' k v e h s z r =
-    let same = s ∙ ap (λ o. unwrap_or o q.stage) (is_none (next q.stage k v) h) in
+    let same = s ∙ ap (λ o. unwrap_or o q.stage) (none_tested (next q.stage k v) h) in
     (λ i. record { stage = same i; whole = z i; rest = r i }) ∙ ap (λ o. unwrap_or (option_map (λ t. t.then) o) q) e
 
 went_by : (o : Option Step) (q : State) (f : Piece) (q' : State) → Some f ≡ option_map (λ t. t.read) o → q' ≡ unwrap_or (option_map (λ t. t.then) o) q → Some (record { read = f; then = q' }) ≡ o
