@@ -63,6 +63,8 @@ impl<'a, K: Key> Index<K> for FrozenIndex<'a, K> {
 
     ghost opened = { Open K.Key.before };
 
+    ghost meant = { λ x o. o };
+
     fn len(&self) -> usize {
         self.rows.len()
     }
