@@ -6,7 +6,7 @@ use Rattle.std.proofs.lemmas.List.{ext_get_or, get_or-set_same, get_or-set_other
 use Rattle.std.proofs.lemmas.List.Edits.{length-insert, get_or-insert_below, get_or-insert_at, get_or-insert_above, length-remove, get_or-remove_below, get_or-remove_above}
 use Rattle.std.specs.List.{insert, remove}
 use Rattle.layers.specs.Table.{listed, none}
-use Rattle.layers.specs.Views.{numbers}
+use Rattle.layers.specs.Held.{numbers}
 use Rattle.layers.specs.declared.table.StruckRow.{StruckRow}
 use Rattle.layers.specs.declared.table.StruckRows.{StruckRows}
 

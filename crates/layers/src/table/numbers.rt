@@ -1,7 +1,7 @@
 // What is asked of the table of struck rows, and how it changes.
 ghost use Rattle.std.specs.Prelude.{◌≡◌, ◌+◌, ◌-◌, ◌^◌, ◌<◌, ◌≤◌, false, [], nat_le};
 ghost use Rattle.layers.specs.Table.{listed, has, under, position_of, insert_answer, remove_answer, with_number, without_number};
-ghost use Rattle.layers.specs.Views.{numbers};
+ghost use Rattle.layers.specs.Held.{numbers};
 
 use super::{StruckRow, StruckRows};
 use indexes::Decline;

@@ -4,7 +4,7 @@ use Rattle.std.proofs.lemmas.Bool.{leb-false}
 use Rattle.std.specs.List.{insert}
 use Rattle.layers.specs.Table.{Ascending, listed, has, position_of}
 use Rattle.layers.specs.declared.table.StruckRows.{StruckRows}
-use Rattle.layers.specs.Views.{numbers}
+use Rattle.layers.specs.Held.{numbers}
 use Rattle.layers.proofs.Ascending.{Ranked, ranked, ascending_inserted, absent}
 use Rattle.layers.proofs.Entries.{struck_row, length_numbers, entries_inserted}
 use Rattle.layers.proofs.table.StruckRows.insert.Goals as goal

@@ -2,7 +2,7 @@
 use Rattle.std.proofs.Common.{◌≡◌, false, cond, eqb, Some, None, sym, ap, ◌∙◌, subst, arith}
 use Rattle.std.proofs.lemmas.Bool.{ne_eqb}
 use Rattle.layers.specs.Table.{has, under}
-use Rattle.layers.specs.Views.{numbers}
+use Rattle.layers.specs.Held.{numbers}
 use Rattle.layers.proofs.Ascending.{Ranked, ranked, has_at, has_ranked, lacks}
 use Rattle.layers.proofs.Entries.{entry_at, length_numbers}
 use Rattle.layers.proofs.table.StruckRows.position.Goals as goal

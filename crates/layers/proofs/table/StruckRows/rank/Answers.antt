@@ -1,5 +1,5 @@
 use Rattle.std.proofs.Common.{arith, below_more}
-use Rattle.layers.specs.Views.{numbers}
+use Rattle.layers.specs.Held.{numbers}
 use Rattle.layers.proofs.Ascending.{rank_is, above_from}
 use Rattle.layers.proofs.Entries.{entry_at, length_numbers}
 use Rattle.layers.proofs.table.StruckRows.rank.Goals as goal

@@ -2,7 +2,7 @@
 use Rattle.std.proofs.Common.{◌≡◌, ◌-◌, take, sym, ap, ◌∙◌, subst, arith}
 use Rattle.std.specs.List.{remove}
 use Rattle.layers.specs.Table.{Ascending, listed}
-use Rattle.layers.specs.Views.{numbers}
+use Rattle.layers.specs.Held.{numbers}
 use Rattle.layers.proofs.Ascending.{Stands, stands, ascending_removed}
 use Rattle.layers.proofs.Entries.{length_numbers, entries_removed}
 use Rattle.layers.proofs.table.StruckRows.remove.Goals as goal

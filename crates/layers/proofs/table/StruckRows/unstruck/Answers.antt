@@ -1,6 +1,6 @@
 use Rattle.std.proofs.Common.{ℕ, suc, ◌+◌, ◌<◌, ◌≤◌, length, get_or, ap, ⊎_elim, arith, below_more}
 use Rattle.std.proofs.lemmas.Bool.{cases_lt}
-use Rattle.layers.specs.Views.{numbers}
+use Rattle.layers.specs.Held.{numbers}
 use Rattle.layers.proofs.Ascending.{rank_is, above_from, has_none}
 use Rattle.layers.proofs.Entries.{entry_at, length_numbers}
 use Rattle.layers.proofs.table.StruckRows.unstruck.Goals as goal

@@ -1,5 +1,5 @@
 use Rattle.std.proofs.Common.{ℕ, ◌+◌, ◌-◌, ◌<◌, ◌≤◌, get_or}
-use Rattle.layers.specs.Views.{numbers}
+use Rattle.layers.specs.Held.{numbers}
 use Rattle.layers.proofs.table.StruckRows.unstruck.Given as goal
 
 abbrev pub invariant-loop-at : goal.invariant-loop-at
