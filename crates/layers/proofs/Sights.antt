@@ -1,11 +1,11 @@
 -- What is in sight once rows are hidden: how many rows, which row at a place, the place of a key, the order.
-use Rattle.std.proofs.Common.{◌≡◌, ℕ, zero, suc, ◌+◌, ◌-◌, ◌<◌, ◌≤◌, Bool, true, false, cond, not, List, [], ◌∷◌, length, get_or, sym, refl, ap, ◌∙◌, subst, ⊎_elim, add-zero, add-one, arith}
+use Rattle.std.proofs.Common.{◌≡◌, ℕ, zero, suc, ◌+◌, ◌-◌, ◌<◌, ◌≤◌, Bool, true, false, cond, not, List, [], ◌∷◌, length, get_or, sym, refl, ap, ◌∙◌, subst, ⊎_elim, add-zero, arith}
 use Rattle.std.proofs.lemmas.Bool.{lt-ltb, le-ltb, eq-eqb, ne_eqb, cases_order, cases_lt, cases_Bool, not-false}
-use Rattle.std.proofs.ByRecursion.{All-weaker, All-get_or}
+use Rattle.std.proofs.ByRecursion.{All-weaker}
 use Rattle.std.specs.List.{AllByRecursion}
 use Rattle.keys.specs.Order.{Lawful}
 use Rattle.keys.specs.Orders.{laws}
-use Rattle.indexes.specs.Meaning.{count, passed, place_of, Ordered, Meaning, Meant}
+use Rattle.indexes.specs.Meaning.{count, passed, place_of, Meaning, Meant}
 use Rattle.indexes.specs.declared.index.Side.{Side}
 use Rattle.indexes.specs.declared.index.Side.TheVariants.{At, After}
 use Rattle.layers.specs.Table.{Ascending, has, under}

@@ -9,7 +9,6 @@ use Rattle.indexes.specs.declared.decline.Decline.{Decline}
 use Rattle.indexes.specs.declared.decline.Decline.TheVariants.{NoSuchRow, AlreadySo}
 use Rattle.layers.specs.declared.calls.Call.{Call}
 use Rattle.layers.specs.declared.calls.Call.TheVariants as call
-use Rattle.layers.specs.declared.calls.Answer.{Answer}
 use Rattle.layers.specs.declared.calls.Answer.TheVariants as answer
 use Rattle.layers.specs.Table.{Ascending, has, under, Within, number_answer, strike_answer, restore_answer, with_number, without_number}
 use Rattle.layers.specs.Sight.{out_below}
