@@ -10,6 +10,7 @@
 
 #![tactic(auto)]
 
+mod letter;
 mod line;
 mod refusal;
 mod run;
