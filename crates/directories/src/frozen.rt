@@ -1,5 +1,6 @@
 // A frozen column: rows in order that no longer change, with what is built over them.
 ghost use Rattle.std.specs.Prelude.{◌≡◌, []};
+ghost use Rattle.std.proofs.Props.{props};
 ghost use Rattle.directories.specs.Frozen.{Holding, Open, Opens, column_of, frozen};
 ghost use Rattle.indexes.specs.declared.layout.Layout.TheVariants.{Bare};
 
@@ -71,6 +72,8 @@ impl<'a, K: Key> Index<K> for FrozenIndex<'a, K> {
     ghost means = { λ x. frozen K.Key.before x.layout (column_of x) };
 
     ghost opened = { Open K.Key.before };
+
+    ghost opened_is_fact = { λ x. Prim.hlevel props };
 
     ghost meant = { λ x o. o.meant };
 
