@@ -1,3 +1,5 @@
-pub mod Slots
-pub mod Opening
+pub mod Columns
 pub mod Frozen
+pub mod Opening
+pub mod Slots
+pub mod Trees
