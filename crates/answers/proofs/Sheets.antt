@@ -4,7 +4,7 @@ use Rattle.std.specs.Option.{option_map}
 use Rattle.keys.specs.Weights.{lighter}
 use Rattle.indexes.specs.declared.layout.Layout.{Layout}
 use Rattle.indexes.specs.Meaning.{Meaning}
-use Rattle.directories.specs.Frozen.{bare}
+use Rattle.directories.specs.Meanings.{bare}
 use Rattle.directories.specs.Opening.{bare_opening}
 use Rattle.layers.specs.Reference.{none_struck}
 use Rattle.sheets.specs.declared.field.Kind.TheVariants.{Accounts, Labels}
