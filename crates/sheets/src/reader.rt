@@ -8,7 +8,7 @@ use crate::field::{Field, Kind, Part};
 use crate::value::{big_endian, is_choice, is_sought};
 
 // What was read before, on which it depends which field may come next.
-#[derive(Clone, Copy)]
+#[derive(Clone, Copy, PartialEq, Eq, Debug)]
 pub(crate) enum Stage {
     Start,
     Chosen,
@@ -17,7 +17,7 @@ pub(crate) enum Stage {
 }
 
 // Of a sheet of `whole` bytes, `rest` is left.
-#[derive(Clone, Copy)]
+#[derive(Clone, Copy, PartialEq, Eq, Debug)]
 pub struct Reader<'a> {
     stage: Stage,
     whole: usize,

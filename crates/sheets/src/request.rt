@@ -12,7 +12,7 @@ use crate::value::number;
 use indexes::Side;
 use std::alloc::{AllocError, Global};
 
-#[derive(Clone, Copy)]
+#[derive(Clone, Copy, PartialEq, Eq, Debug)]
 pub enum Request<K> {
     // a row number of the column
     Strike(u32),

@@ -14,14 +14,14 @@ use indexes::Layout;
 pub const MOST: usize = 65536;
 
 // A column of account numbers of 4 bytes, or of labels of 16.
-#[derive(Clone, Copy)]
+#[derive(Clone, Copy, PartialEq, Eq, Debug)]
 pub enum Column<'a> {
     Accounts(Part<'a>),
     Labels(Part<'a>),
 }
 
 // The directory's value is its letter and its node size; the reader stands at the first call.
-#[derive(Clone, Copy)]
+#[derive(Clone, Copy, PartialEq, Eq, Debug)]
 pub struct Sheet<'a> {
     pub directory: Part<'a>,
     pub column: Column<'a>,
