@@ -32,7 +32,7 @@ wrote (f ∷ fs) s p z (suc n) r at sum l =
     let rest = flat_map framed fs in
     let long = length-append f.value rest in
     let here : f.place ≡ z - length (f.value ++ rest) = (let a = at.0 in omega arith) in
-    let one = admitted s z (front f rest) r.0 z f.place f (sym r.1) refl refl here in
+    let one = admitted s z (front f rest) r.0 f.place (sym r.1) here in
     ap (λ o. bind o (λ (t : Step). bind (pieces n t.then.stage t.then.whole t.then.rest) (λ gs. Some (t.read ∷ gs)))) (sym one)
     ∙ ap (λ o. bind o (λ gs. Some (f ∷ gs))) (wrote fs r.0 (p + 3 + length f.value) z n r.2 at.1 (omega arith) (omega arith))
 

@@ -1,12 +1,14 @@
 -- One step of the grammar: from what the reader saw to the step, and from the step to what it took. Assumes nothing.
-use Rattle.std.proofs.Common.{◌≡◌, ℕ, ◌+◌, ◌-◌, ◌*◌, ◌<◌, ◌≤◌, false, leb, List, [], ◌∷◌, length, get_or, take, drop, is_some, Some, None, Option, unwrap_or, sym, refl, ap, ◌∙◌, subst, arith, length-drop}
+use Rattle.std.proofs.Common.{◌≡◌, ℕ, ◌+◌, ◌-◌, ◌*◌, ◌<◌, ◌≤◌, leb, List, [], ◌∷◌, length, get_or, take, drop, Some, None, Option, unwrap_or, sym, refl, ap, ◌∙◌, subst, arith, length-drop}
 use Rattle.std.specs.Option.{option_map}
 use Rattle.std.proofs.lemmas.Bool.{le-leb, leb-true}
 use Rattle.sheets.specs.declared.field.Kind.{Kind}
+use Rattle.sheets.specs.declared.field.Field.{Field}
+use Rattle.sheets.specs.declared.reader.Reader.{Reader}
 use Rattle.sheets.specs.declared.reader.Stage.{Stage}
-use Rattle.sheets.specs.Fields.{kind, Piece}
-use Rattle.sheets.specs.Grammar.{next, moved, step_at, step, value_step, bind, Step, State, front, onward}
-use Rattle.sheets.proofs.Options.{none_some, some_same, bind_parts, when_parts, none_tested}
+use Rattle.sheets.specs.Fields.{kind, Piece, told}
+use Rattle.sheets.specs.Grammar.{next, step_at, step, value_step, bind, Step, State, state, Reads}
+use Rattle.sheets.proofs.Options.{none_some, some_same, bind_parts, when_parts}
 
 stepped : (s : Stage) (z : ℕ) (xs : List ℕ) → 3 ≤ length xs → step_at s z xs ≡ value_step s z (get_or xs 0 0) (get_or xs 1 0 * 256 + get_or xs 2 0) (drop 3 xs)
 stepped s z [] h = absurd (omega arith)
@@ -30,18 +32,13 @@ module _ (s : Stage) (z : ℕ) {xs : List ℕ} {k : Kind} {n : ℕ} {v rest : Li
   }))
   stepping = stepped s z xs sees.long ∙ rw (← sees.size, le-leb n _ sees.fits, sees.named, ← sees.value, ← sees.back)
 
-  -- what the reader hands on where the field is allowed, r at a place that it computed from z'
-  pub admitted : (s' : Stage) (z' p : ℕ) (r : Piece) → Some s' ≡ next s k v → z' ≡ z → r ≡ record { kind = k; place = p; value = v } → p ≡ z - length (drop 3 xs) → Some (record {
-    read = r;
-    then = record { stage = s'; whole = z'; rest = rest };
+  -- a field that is allowed
+  pub admitted : (s' : Stage) (p : ℕ) → Some s' ≡ next s k v → p ≡ z - length (drop 3 xs) → Some (record {
+    read = record { kind = k; place = p; value = v };
+    then = record { stage = s'; whole = z; rest = rest };
   }) ≡ step_at s z xs
-  admitted s' z' p r e same is at =
-      (λ i. Some (record { read = is i; then = record { stage = s'; whole = same i; rest = rest } }))
-      ∙ (λ i. Some (record { read = record { kind = k; place = at i; value = v }; then = record { stage = s'; whole = z; rest = rest } }))
-      ∙ sym (stepping ∙ rw (← e))
-
-  pub refused : false ≡ is_some (next s k v) → None ≡ step_at s z xs
-  refused e = sym (stepping ∙ rw (none_tested (next s k v) e))
+  admitted s' p e at =
+      (λ i. Some (record { read = record { kind = k; place = at i; value = v }; then = record { stage = s'; whole = z; rest = rest } })) ∙ sym (stepping ∙ rw (← e))
 
 -- a step took a head of three bytes and a value off the front
 pub record Taken (s : Stage) (z : ℕ) (bs : List ℕ) (t : Step) : Type 0 where
@@ -89,24 +86,18 @@ shorter {s} {z} {bs} {t} g =
     let b : length t.then.rest ≡ length g.after - (g.hi * 256 + g.lo) = ap length g.rest ∙ length-drop _ g.after in
     omega arith
 
--- a reader that a field did not move is where it was
-pub still : (q q' : State) (k : Kind) (v : List ℕ) → None ≡ step q → false ≡ is_some (next q.stage k v) → q'.stage ≡ moved q.stage k v → q'.whole ≡ q.whole → q'.rest ≡ q.rest → q' ≡ onward q
-still q q' k v e h s z r =
-    let same = s ∙ ap (λ o. unwrap_or o q.stage) (none_tested (next q.stage k v) h) in
-    (λ i. record { stage = same i; whole = z i; rest = r i }) ∙ ap (λ o. unwrap_or (option_map (λ t. t.then) o) q) e
-
 went_by : (o : Option Step) (q : State) (f : Piece) (q' : State) → Some f ≡ option_map (λ t. t.read) o → q' ≡ unwrap_or (option_map (λ t. t.then) o) q → Some (record { read = f; then = q' }) ≡ o
 went_by None q f q' e h = none_some f (sym e)
 went_by (Some t) q f q' e h = let r = some_same f t.read e in (λ i. Some (record { read = r i; then = h i }))
 
 -- the reader gave a field and went on: a step
-pub went : (q : State) (f : Piece) (q' : State) → Some f ≡ front q → q' ≡ onward q → Some (record { read = f; then = q' }) ≡ step q
-went q f q' e h = went_by (step q) q f q' e h
+pub went : {r r' : Reader} {f : Field} → Reads r (Some f) r' → Some (record { read = told f; then = state r' }) ≡ step (state r)
+went {r} {r'} {f} h = went_by (step (state r)) (state r) (told f) (state r') h.field h.reader
 
 stayed_by : (o : Option Step) → None ≡ option_map (λ t. t.read) o → None ≡ o
 stayed_by None e = refl
 stayed_by (Some t) e = none_some t.read e
 
 -- the reader gave none: no step
-pub stayed : (q : State) → None ≡ front q → None ≡ step q
-stayed q e = stayed_by (step q) e
+pub stayed : {r r' : Reader} → Reads r None r' → None ≡ step (state r)
+stayed {r} h = stayed_by (step (state r)) h.field

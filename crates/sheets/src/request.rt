@@ -50,13 +50,8 @@ impl<'a> Sheet<'a> {
     pub fn requests<K: SheetKey>(&self, heap: Global) -> Result<Vec<Request<K>>, AllocError>
         ensures { (s : Said) → viewed self.now ≡ Some s → Asks K.SheetKey.width K.SheetKey.spelled s.calls result }
     {
-        let mut requests = Vec::new(heap);
-        let mut reader = self.calls;
-        while let Some(field) = reader.field() {
-            if let Some(request) = Request::of(field) {
-                requests.push(request)?;
-            }
-        }
-        Ok(requests)
+        self.calls
+            .filter_map(|field| Request::of(field))
+            .collect(heap)
     }
 }

@@ -62,10 +62,10 @@ impl<'a> Sheet<'a> {
             return None;
         }
         let mut reader = Reader::new(bytes);
-        let Field::Directory(directory) = reader.field()? else {
+        let Field::Directory(directory) = reader.next()? else {
             return None;
         };
-        let column = Column::of(reader.field()?)?;
+        let column = Column::of(reader.next()?)?;
         if !reader.is_well_formed() {
             return None;
         }

@@ -1,14 +1,7 @@
-// How long a value is, what that of a directory and of a call for a place may be, and the number that four bytes are.
-ghost use Rattle.std.specs.Prelude.{◌≡◌, ◌+◌, ◌*◌};
+// What the value of a directory and of a call for a place may be, and the number that four bytes are.
+ghost use Rattle.std.specs.Prelude.{◌≡◌};
 ghost use Rattle.sheets.specs.Fields.{choice, sought};
 ghost use Rattle.sheets.specs.Said.{four_bytes};
-
-// The length of a value, in two bytes.
-pub(crate) fn big_endian(hi: u8, lo: u8) -> usize
-    ensures { result ≡ hi * 256 + lo }
-{
-    usize::from(u16::from_be_bytes([hi, lo]))
-}
 
 // F or L and a node size, or P and 0.
 pub(crate) fn is_choice(value: &[u8]) -> bool
