@@ -1,7 +1,6 @@
 pub mod Keys
 pub mod Left
 pub mod Letters
-pub mod Numbers
 pub mod Options
 pub mod Readings
 pub mod Requests

@@ -1,11 +1,9 @@
 -- What a sheet asks, taken from its fields one by one.
-use Rattle.std.proofs.Common.{◌≡◌, ℕ, suc, ◌-◌, ◌<◌, List, [], ◌∷◌, length, get_or, take, drop, Some, sym, refl, ap, ◌∙◌, arith}
-use Rattle.std.proofs.lemmas.List.{take_all}
+use Rattle.std.proofs.Common.{◌≡◌, ℕ, suc, List, [], ◌∷◌, length, Some, refl, ap, ◌∙◌}
 use Rattle.std.specs.List.{cons_option}
 use Rattle.std.specs.Option.{option_map}
 use Rattle.std.specs.Int.Digits.{number_from_digits}
 use Rattle.std.proofs.lemmas.Bool.{eq-eqb}
-use Rattle.indexes.specs.declared.index.Side.{Side}
 use Rattle.indexes.specs.declared.index.Side.TheVariants.{At, After}
 use Rattle.sheets.specs.declared.field.Kind.{Kind}
 use Rattle.sheets.specs.declared.request.Request.{Request}
@@ -13,25 +11,18 @@ use Rattle.sheets.specs.declared.request.Request.TheVariants as request
 use Rattle.sheets.specs.declared.sheet.Sheet.{Sheet}
 use Rattle.sheets.specs.Fields.{Piece}
 use Rattle.sheets.specs.Grammar.{when, Said, state, left, viewed}
-use Rattle.sheets.specs.Said.{key_of, place_of, request_as, requests_of}
+use Rattle.sheets.specs.Said.{request_as, requests_of}
 use Rattle.sheets.specs.Written.{Calls, strikes, restores, seeks_at, seeks_after, CallsOver}
-use Rattle.sheets.proofs.Options.{some_same, bind_parts}
+use Rattle.std.proofs.lemmas.Option.{same_Some}
+use Rattle.sheets.proofs.Options.{bind_parts}
 
 -- the calls of a sheet are those from its reader on
 pub calls_left : (sheet : Sheet) (s : Said) → viewed sheet ≡ Some s → left (state sheet.calls) ≡ Some s.calls
 calls_left sheet s e =
     let p = bind_parts (left (state sheet.calls)) _ s e in
-    p.1 ∙ ap (λ (t : Said). Some t.calls) (some_same _ s p.2)
+    p.1 ∙ ap (λ (t : Said). Some t.calls) (same_Some _ s p.2)
 
 module _ {K : Type 0} (w : ℕ) (spelled : List ℕ → K) where
-  -- a side's letter, and a key behind it
-  pub sought : (side : Side) (letter : ℕ) → ((key : List ℕ) → place_of w spelled (letter ∷ key) ≡ option_map (request.Place side) (key_of w spelled key))
-      → (v : List ℕ) (k : K) → 0 < length v → get_or v 0 0 ≡ letter → Some k ≡ key_of w spelled (take (length v - 1) (drop 1 v)) → Some (request.Place side k) ≡ place_of w spelled v
-  sought side letter is [] k some e at = absurd (omega arith)
-  sought side letter is (a ∷ key) k some e at =
-      ap (option_map (request.Place side)) (at ∙ ap (key_of w spelled) (take_all _ key (omega arith)))
-      ∙ sym (is key) ∙ ap (λ x. place_of w spelled (x ∷ key)) (sym e)
-
   -- a call over keys of this width asks one thing
   asks : (k : Kind) (v : List ℕ) → Calls w k v → (r : Request K) × (request_as w spelled k v ≡ Some r)
   asks _ v (strikes e) = (request.Strike (number_from_digits 256 v), ap (λ b. option_map request.Strike (when b (number_from_digits 256 v))) (eq-eqb (length v) 4 e))

@@ -11,7 +11,8 @@ use Rattle.sheets.specs.Grammar.{step_at, bind, Step, pieces, fields}
 use Rattle.sheets.specs.Written.{framed, Placed, Within, Spells, Spelled}
 use Rattle.sheets.proofs.Letters.{letter_kind, kind_letter}
 use Rattle.sheets.proofs.Left.{ended_nil}
-use Rattle.sheets.proofs.Options.{none_some, some_same, bind_parts, when_parts}
+use Rattle.std.proofs.lemmas.Option.{same_Some, none-some}
+use Rattle.sheets.proofs.Options.{bind_parts, when_parts}
 use Rattle.sheets.proofs.Stages.{Runs, ordered_runs, runs_ordered}
 use Rattle.sheets.proofs.Steps.{Front, admitted, Taken, taken}
 
@@ -75,7 +76,7 @@ read_back : (n : ℕ) (s : Stage) (p z : ℕ) (bs : List ℕ) (fs : List Piece) 
 read_back n s p z [] fs w sum e =
     let none = ended_nil s fs e in
     subst (Stand s p []) (sym none) (record { runs = e ∙ ap Some none; placed = tt; bytes = refl })
-read_back zero s p z (b ∷ bs) fs w sum e = none_some fs e
+read_back zero s p z (b ∷ bs) fs w sum e = absurd (none-some fs e)
 read_back (suc n) s p z (b ∷ bs) fs w sum e =
     let x = bind_parts (step_at s z (b ∷ bs)) _ fs e in
     let t : Step = x.0 in
@@ -89,7 +90,7 @@ read_back (suc n) s p z (b ∷ bs) fs w sum e =
     let whole = g.whole in
     let at = g.at in
     let r = read_back n t.then.stage (p + 3 + length v) t.then.whole rest y.0 (bytes_back (framed t.read) rest (subst Bytes (sym all) w)) (omega arith) y.1 in
-    subst (Stand s p (b ∷ bs)) (some_same _ _ y.2) (record {
+    subst (Stand s p (b ∷ bs)) (same_Some _ _ y.2) (record {
       runs = (t.then.stage, g.allowed, r.runs);
       placed = (omega arith, r.placed);
       bytes = ap (λ l. framed t.read ++ l) r.bytes ∙ all;
@@ -131,5 +132,5 @@ spelled bs fs w e =
     record {
       spells = h;
       within = subst (λ (l : List ℕ). AllByRecursion (Within l) fs) h.bytes (places [] fs h.placed);
-      alone = λ gs k. some_same gs fs (sym (spells_read bs gs k) ∙ e);
+      alone = λ gs k. same_Some gs fs (sym (spells_read bs gs k) ∙ e);
     }

@@ -8,7 +8,8 @@ use Rattle.sheets.specs.declared.reader.Reader.{Reader}
 use Rattle.sheets.specs.declared.reader.Stage.{Stage}
 use Rattle.sheets.specs.Fields.{kind, Piece, told}
 use Rattle.sheets.specs.Grammar.{next, step_at, step, value_step, bind, Step, State, state, Reads}
-use Rattle.sheets.proofs.Options.{none_some, some_same, bind_parts, when_parts}
+use Rattle.std.proofs.lemmas.Option.{same_Some, none-some}
+use Rattle.sheets.proofs.Options.{bind_parts, when_parts}
 
 stepped : (s : Stage) (z : ℕ) (xs : List ℕ) → 3 ≤ length xs → step_at s z xs ≡ value_step s z (get_or xs 0 0) (get_or xs 1 0 * 256 + get_or xs 2 0) (drop 3 xs)
 stepped s z [] h = absurd (omega arith)
@@ -56,15 +57,15 @@ pub record Taken (s : Stage) (z : ℕ) (bs : List ℕ) (t : Step) : Type 0 where
   pub rest : t.then.rest ≡ drop (hi * 256 + lo) after
 
 pub taken : (s : Stage) (z : ℕ) (bs : List ℕ) (t : Step) → step_at s z bs ≡ Some t → Taken s z bs t
-taken s z [] t e = none_some t e
-taken s z (a ∷ []) t e = none_some t e
-taken s z (a ∷ h ∷ []) t e = none_some t e
+taken s z [] t e = absurd (none-some t e)
+taken s z (a ∷ []) t e = absurd (none-some t e)
+taken s z (a ∷ h ∷ []) t e = absurd (none-some t e)
 taken s z (a ∷ h ∷ l ∷ bs) t e =
     let n = h * 256 + l in
     let c = when_parts (leb n (length bs)) _ t e in
     let k = bind_parts (kind a) _ t c.1 in
     let m = bind_parts (next s k.0 (take n bs)) _ t k.2 in
-    subst (Taken s z (a ∷ h ∷ l ∷ bs)) (some_same _ _ m.2) (record {
+    subst (Taken s z (a ∷ h ∷ l ∷ bs)) (same_Some _ _ m.2) (record {
       tag = a;
       hi = h;
       lo = l;
@@ -87,8 +88,8 @@ shorter {s} {z} {bs} {t} g =
     omega arith
 
 went_by : (o : Option Step) (q : State) (f : Piece) (q' : State) → Some f ≡ option_map (λ t. t.read) o → q' ≡ unwrap_or (option_map (λ t. t.then) o) q → Some (record { read = f; then = q' }) ≡ o
-went_by None q f q' e h = none_some f (sym e)
-went_by (Some t) q f q' e h = let r = some_same f t.read e in (λ i. Some (record { read = r i; then = h i }))
+went_by None q f q' e h = absurd (none-some f (sym e))
+went_by (Some t) q f q' e h = let r = same_Some f t.read e in (λ i. Some (record { read = r i; then = h i }))
 
 -- the reader gave a field and went on: a step
 pub went : {r r' : Reader} {f : Field} → Reads r (Some f) r' → Some (record { read = told f; then = state r' }) ≡ step (state r)
@@ -96,7 +97,7 @@ went {r} {r'} {f} h = went_by (step (state r)) (state r) (told f) (state r') h.f
 
 stayed_by : (o : Option Step) → None ≡ option_map (λ t. t.read) o → None ≡ o
 stayed_by None e = refl
-stayed_by (Some t) e = none_some t.read e
+stayed_by (Some t) e = absurd (none-some t.read e)
 
 -- the reader gave none: no step
 pub stayed : {r r' : Reader} → Reads r None r' → None ≡ step (state r)
