@@ -32,7 +32,8 @@ fn place<K: SheetKey>(bytes: &[u8]) -> Option<Request<K>>
 }
 
 impl<K: SheetKey> Request<K> {
-    // What a field asks, if it is a call over keys of this kind.
+    // What a field asks, if it is a call over keys of this kind. An Option says as much as a TryFrom: who reads calls
+    // passes over what is none.
     pub fn of(field: Field<'_>) -> Option<Request<K>>
         ensures { result ≡ request_of K.SheetKey.width K.SheetKey.spelled (told field.entry) }
     {

@@ -29,7 +29,7 @@ pub struct Sheet<'a> {
 }
 
 impl<'a> Column<'a> {
-    // The column that a field is, if it is one.
+    // The column that a field is, if it is one. An Option says as much as a TryFrom: there is one way to fail.
     fn of(field: Field<'a>) -> Option<Column<'a>>
         ensures { option_map col result ≡ column_of (told field.entry) }
     {
