@@ -1,17 +1,12 @@
 -- The fields that are left, one by one: as many turns as there are bytes are enough, so none need be counted. Assumes nothing.
-use Rattle.std.proofs.Common.{◌≡◌, ℕ, zero, suc, ◌<◌, ◌≤◌, List, [], ◌∷◌, length, is_some, true, Some, None, Option, unwrap_or, sym, refl, ap, ◌∙◌, subst, arith}
-use Rattle.std.proofs.lemmas.Iterator.{YieldsList}
-use Rattle.std.proofs.lemmas.Iterator.Splits.{YieldsList-from_shown_while}
-use Rattle.std.proofs.lemmas.Bool.Decides.{nat_tests}
-use Rattle.sheets.specs.declared.field.Field.{Field}
-use Rattle.sheets.specs.declared.reader.Reader.{Reader}
+use Rattle.std.proofs.Common.{◌≡◌, ℕ, zero, suc, ◌<◌, ◌≤◌, List, [], ◌∷◌, length, is_some, Some, None, Option, sym, refl, ap, ◌∙◌, arith}
 use Rattle.sheets.specs.declared.reader.Stage.{Stage}
 use Rattle.sheets.specs.declared.reader.Stage.TheVariants as stage
-use Rattle.sheets.specs.Fields.{Piece, told}
-use Rattle.sheets.specs.Grammar.{step_at, step, bind, Step, State, state, Reads, pieces, left, ended}
+use Rattle.sheets.specs.Fields.{Piece}
+use Rattle.sheets.specs.Grammar.{step_at, step, bind, Step, State, pieces, left, ended}
 use Rattle.std.proofs.lemmas.Option.{same_Some, none-some}
-use Rattle.sheets.proofs.Options.{bind_parts, bind_same}
-use Rattle.sheets.proofs.Steps.{taken, shorter, went, stayed}
+use Rattle.sheets.proofs.Options.{bind_same}
+use Rattle.sheets.proofs.Steps.{taken, shorter}
 
 -- a field, and then those that are left after it
 abbrev after_step : Option Step → Option (List Piece)
@@ -70,29 +65,3 @@ no_more s z (b ∷ bs) fs e h = absurd (none-some fs (ap after_step e ∙ sym (m
 -- no field is taken where fields go to the end: none is left
 pub left_end : (q : State) (fs : List Piece) → None ≡ step q → left q ≡ Some fs → fs ≡ []
 left_end q fs e h = no_more q.stage q.whole q.rest fs e h
-
--- a reader that went on is well formed or not, as it was
-pub reads_on : {r r' : Reader} (o : Option Field) → Reads r o r' → is_some o ≡ true → is_some (left (state r')) ≡ is_some (left (state r))
-reads_on None h e = absurd (grind (arith, nat_tests))
-reads_on {r} {r'} (Some f) h e = some_step (state r) (record { read = told f; then = state r' }) (went h)
-
--- a reader with fields to the end hands them on
-abbrev unread : Reader → List Piece
-unread r = unwrap_or (left (state r)) []
-
-abbrev HasAll : Reader → Type 0
-HasAll r = (fs : List Piece) × (left (state r) ≡ Some fs)
-
-none_unread : (r r' : Reader) → HasAll r → Reads r None r' → length (unread r) ≡ 0
-none_unread r r' p h = ap (λ o. length (unwrap_or o [])) p.1 ∙ ap length (left_end (state r) p.0 (stayed h) p.1)
-
-one_unread : (r : Reader) (f : Field) (r' : Reader) → HasAll r → Reads r (Some f) r' → HasAll r' × (unread r ≡ told f ∷ unread r')
-one_unread r f r' p h =
-    let e = left_step (state r) _ (went h) in
-    let q = bind_parts (left (state r')) _ p.0 (sym e ∙ p.1) in (
-      (q.0, q.1),
-      ap (λ o. unwrap_or o []) (e ∙ ap (λ o. bind o (λ fs. Some (told f ∷ fs))) q.1) ∙ ap (λ o. told f ∷ unwrap_or o []) (sym q.1),
-    )
-
-pub yields_left : (r : Reader) (fs : List Piece) → left (state r) ≡ Some fs → YieldsList Reads told r fs
-yields_left r fs e = subst (YieldsList Reads told r) (ap (λ o. unwrap_or o []) e) (YieldsList-from_shown_while Reads told unread HasAll none_unread one_unread r (fs, e))

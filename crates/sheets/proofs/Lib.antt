@@ -7,3 +7,4 @@ pub mod Requests
 pub mod Spelled
 pub mod Stages
 pub mod Steps
+pub mod Turns

@@ -3,7 +3,7 @@ use Rattle.std.proofs.Common.{◌≡◌, Some, sym, refl, ap, arith}
 use Rattle.sheets.specs.Fields.{told}
 use Rattle.sheets.specs.Grammar.{state, step}
 use Rattle.sheets.proofs.Readings.{none, no_first, no_directory, no_second, no_column, no_rest, all, bytes_fit}
-use Rattle.sheets.proofs.Steps.{went, stayed}
+use Rattle.sheets.proofs.Turns.{went, stayed}
 use Rattle.sheets.proofs.sheet.Sheet.read.Goals as goal
 use Rattle.sheets.proofs.sheet.Sheet.read.Goals.{In_ok-directory, In_ok-next}
 

@@ -4,7 +4,7 @@ use Rattle.std.proofs.lemmas.Iterator.{items_from_collect}
 use Rattle.std.proofs.lemmas.Iterator.Consumers.{YieldsList-at, YieldsList-from_filter_map}
 use Rattle.std.proofs.lemmas.Result.{IfOk-weaker}
 use Rattle.sheets.specs.Said.{request_of}
-use Rattle.sheets.proofs.Left.{yields_left}
+use Rattle.sheets.proofs.Turns.{yields_left}
 use Rattle.sheets.proofs.Requests.{calls_left, asks_each}
 use Rattle.sheets.proofs.sheet.Sheet.requests.Goals as goal
 
