@@ -1,12 +1,20 @@
 // An account number, ordered by size.
-ghost use Rattle.std.specs.Prelude.{nat_lt};
+ghost use Rattle.std.specs.Prelude.{◌≡◌, nat_lt};
 ghost use Rattle.std.proofs.Common.{rules};
 
 use crate::Key;
 
-#[derive(Clone, Copy)]
+#[derive(Clone, Copy, PartialEq, Eq, Debug)]
 pub struct Account {
     pub number: u32,
+}
+
+impl From<u32> for Account {
+    ghost from_gives = { λ number key. key.number ≡ number };
+
+    fn from(number: u32) -> Account {
+        Account { number }
+    }
 }
 
 impl Key for Account {

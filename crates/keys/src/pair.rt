@@ -4,7 +4,7 @@ ghost use Rattle.keys.specs.Orders.{lawful_then};
 
 use crate::Key;
 
-#[derive(Clone, Copy)]
+#[derive(Clone, Copy, PartialEq, Eq, Debug)]
 pub struct Pair<A, B> {
     pub first: A,
     pub second: B,
