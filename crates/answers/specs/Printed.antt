@@ -7,7 +7,8 @@ use Rattle.indexes.specs.declared.decline.Decline.TheVariants.{MalformedSheet}
 use Rattle.indexes.specs.declared.layout.Layout.{Layout}
 use Rattle.indexes.specs.declared.layout.Layout.TheVariants as layout
 use Rattle.indexes.specs.Declines.{number_of}
-use Rattle.indexes.specs.Opening.{bare, opening}
+use Rattle.directories.specs.Frozen.{bare}
+use Rattle.directories.specs.Opening.{bare_opening}
 use Rattle.layers.specs.Reference.{none_struck}
 use Rattle.sheets.specs.declared.field.Kind.TheVariants.{Accounts}
 use Rattle.sheets.specs.Fields.{Piece}
@@ -15,22 +16,25 @@ use Rattle.sheets.specs.Grammar.{is, Said, sheet}
 use Rattle.sheets.specs.Said.{layout_of, account_spelled, label_spelled, keys_of, requests_of}
 use Rattle.answers.specs.declared.refusal.Refusal.{Refusal}
 use Rattle.answers.specs.declared.refusal.Refusal.TheVariants.{NoMemory, NoDirectory}
+use Rattle.answers.specs.declared.letter.Letter.{Letter}
+use Rattle.answers.specs.declared.letter.Letter.TheVariants as letter
+use Rattle.answers.specs.Letters.{code}
 use Rattle.answers.specs.Text.{line, lines}
 
 -- the one line of what is declined
-abbrev pub decline_line : ℕ → Decline → List ℕ
-decline_line letter why = line letter (number_of why ∷ [])
+abbrev pub decline_line : Letter → Decline → List ℕ
+decline_line letter why = line (code letter) (number_of why ∷ [])
 
 -- the lines, or that of the column where its opening was declined
-abbrev pub opened_text : ℕ → Result Unit Decline → List ℕ → List ℕ
+abbrev pub opened_text : Letter → Result Unit Decline → List ℕ → List ℕ
 opened_text letter (Ok x) text = text
 opened_text letter (Err why) text = decline_line letter why
 
 -- the text over a bare column of keys of w bytes
-abbrev pub column_text : {K : Type 0} → (K → K → Bool) → ℕ → (List ℕ → K) → ℕ → List ℕ → List Piece → List ℕ
+abbrev pub column_text : {K : Type 0} → (K → K → Bool) → ℕ → (List ℕ → K) → Letter → List ℕ → List Piece → List ℕ
 column_text before w spelled letter column calls =
     let rows = keys_of w spelled column in
-    opened_text letter (opening before rows) (lines before (bare before rows) none_struck (requests_of w spelled calls))
+    opened_text letter (bare_opening before rows) (lines before (bare before rows) none_struck (requests_of w spelled calls))
 
 -- account numbers are ordered by size
 abbrev pub smaller : Account → Account → Bool
@@ -40,8 +44,8 @@ smaller a b = nat_lt a.number b.number
 abbrev pub bare_text : Said → List ℕ
 bare_text s =
     cond (is s.column.kind Accounts)
-    (column_text smaller 4 account_spelled 75 s.column.value s.calls)
-    (column_text lighter 16 label_spelled 84 s.column.value s.calls)
+    (column_text smaller 4 account_spelled letter.Accounts s.column.value s.calls)
+    (column_text lighter 16 label_spelled letter.Labels s.column.value s.calls)
 
 -- the text over a column of a layout: only a bare one is answered
 abbrev pub text_under : Layout → Said → Option (List ℕ)
@@ -51,7 +55,7 @@ text_under (layout.Level m) s = None
 
 -- the text of a sheet, or X 12 where there is none
 abbrev pub text_of : Option Said → Option (List ℕ)
-text_of None = Some (decline_line 88 MalformedSheet)
+text_of None = Some (decline_line letter.Malformed MalformedSheet)
 text_of (Some s) = text_under (layout_of s.directory.value) s
 
 -- the text that is printed for bytes, if they are answered

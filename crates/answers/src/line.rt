@@ -1,42 +1,32 @@
-// One line of the text.
-ghost use Rattle.std.specs.Prelude.{◌≡◌, ◌<◌, ◌++◌, string_bytes, OnOk};
-ghost use Rattle.answers.specs.Text.{line, told};
+// What a line tells behind its letter.
+ghost use Rattle.std.specs.Prelude.{Some};
+ghost use Rattle.answers.specs.Text.{told, spaced};
 
-use crate::refusal::OutOfMemory;
+use indexes::Decline;
 use layers::Answer;
+use std::fmt;
 
-// The letter, then the numbers in decimal, each behind a space, then a line feed.
-pub(crate) fn write_line(
-    text: &mut String,
-    letter: char,
-    numbers: &[usize],
-) -> Result<(), OutOfMemory>
-    requires { letter < 128 }
-    ensures { OnOk result (string_bytes text.new ≡ string_bytes text.old ++ line letter numbers.now) }
-{
-    text.push(letter)?;
-    for number in numbers {
-        write!(text, " {number}")?;
-    }
-    text.push('\n')?;
-    Ok(())
-}
+// What stands in place of a decline's number where there is none.
+const ACCEPTED: u8 = 0;
 
-// What an answer tells: its decline's number or 0, and then its values.
-pub(crate) fn write_answer<K>(
-    text: &mut String,
-    letter: char,
-    answer: &Answer<K>,
-) -> Result<(), OutOfMemory>
-    requires { letter < 128 }
-    ensures { OnOk result (string_bytes text.new ≡ string_bytes text.old ++ line letter (told answer.now)) }
-{
-    match answer {
-        Answer::Declined(why) => write_line(text, letter, &[usize::from(why.number())]),
-        Answer::Done | Answer::Key(_) => write_line(text, letter, &[0]),
-        Answer::Rows(count) => write_line(text, letter, &[0, *count]),
-        Answer::Place(found) => {
-            write_line(text, letter, &[0, found.answer, found.comparisons as usize])
+// The number of a call's decline, or 0 and the answer's values: each in decimal, behind a space.
+#[derive(Clone, Copy)]
+pub(crate) struct Told<'a, K>(pub(crate) &'a Result<Answer<K>, Decline>);
+
+impl<K> fmt::Display for Told<'_, K> {
+    ghost output = { λ t. Some (spaced (told t.0.now)) };
+
+    #[tactic(auto, using(crate::proofs::Lines::spaced_last))]
+    fn fmt<W: fmt::Write>(&self, f: &mut fmt::Formatter<W>) -> fmt::Result {
+        match self.0 {
+            Err(why) => write!(f, " {}", why.number()),
+            Ok(Answer::Done) | Ok(Answer::Key(_)) => write!(f, " {ACCEPTED}"),
+            Ok(Answer::Rows(count)) => write!(f, " {ACCEPTED} {count}"),
+            Ok(Answer::Place(found)) => write!(
+                f,
+                " {ACCEPTED} {} {}",
+                found.answer, found.comparisons
+            ),
         }
     }
 }

@@ -1,16 +1,16 @@
 // The requests of a sheet, carried out on a strike list, and a line for each.
-ghost use Rattle.std.specs.Prelude.{◌≡◌, ◌<◌, IfOk, string_bytes};
+ghost use Rattle.std.specs.Prelude.{◌≡◌, IfOk, string_bytes};
 ghost use Rattle.layers.specs.Table.{has};
-ghost use Rattle.layers.specs.Views.{out_of, Kept};
+ghost use Rattle.layers.specs.Views.{out_of, meant_below};
 ghost use Rattle.answers.specs.Text.{call_of, letter_of, lines};
 
-use crate::line::write_answer;
-use crate::refusal::OutOfMemory;
+use crate::letter::Letter;
+use crate::line::Told;
 use indexes::Index;
 use keys::Key;
 use layers::{Call, StrikeList};
 use sheets::Request;
-use std::alloc::Global;
+use std::alloc::{AllocError, Global};
 
 // The call that a request makes.
 fn call<K: Key>(request: &Request<K>) -> Call<K>
@@ -24,14 +24,13 @@ fn call<K: Key>(request: &Request<K>) -> Call<K>
 }
 
 // The letter that its line begins with.
-fn letter<K: Key>(request: &Request<K>) -> char
-    ensures value { result ≡ letter_of request.now }
-    ensures ascii { result < 128 }
+fn letter<K: Key>(request: &Request<K>) -> Letter
+    ensures { result ≡ letter_of request.now }
 {
     match request {
-        Request::Strike(_) => 'S',
-        Request::Restore(_) => 'R',
-        Request::Place(_, _) => 'Q',
+        Request::Strike(_) => Letter::Strike,
+        Request::Restore(_) => Letter::Restore,
+        Request::Place(_, _) => Letter::Place,
     }
 }
 
@@ -40,14 +39,16 @@ pub(crate) fn run<K: Key, I: Index<K>>(
     heap: Global,
     list: &mut StrikeList<K, I>,
     requests: &[Request<K>],
-) -> Result<String, OutOfMemory>
-    requires { Kept I.Index.opened I.Index.means list.old }
-    ensures { IfOk result (λ t. string_bytes t ≡ lines K.Key.before (I.Index.means list.old.below) (has (out_of list.old)) requests.now) }
+) -> Result<String, AllocError>
+    requires { I.Index.opened list.old.below }
+    ensures { IfOk result (λ t. string_bytes t ≡ lines K.Key.before (meant_below list.old) (has (out_of list.old)) requests.now) }
 {
     let mut text = String::new(heap);
     for request in requests {
+        let letter = letter(request);
         let answer = list.answer(&call(request));
-        write_answer(&mut text, letter(request), &answer)?;
+        let told = Told(&answer);
+        writeln!(text, "{letter}{told}")?;
     }
     Ok(text)
 }

@@ -72,6 +72,8 @@ impl<'a, K: Key> Index<K> for FrozenIndex<'a, K> {
 
     ghost opened = { Open K.Key.before };
 
+    ghost meant = { λ x o. o.meant };
+
     fn len(&self) -> usize {
         self.rows.len()
     }

@@ -34,26 +34,25 @@ pub trait Index<K: Key> {
     // The number of rows.
     fn len(&self) -> usize
         requires { opened self.now }
-        ensures answers { result ≡ length (means self.now).rows }
-        ensures meant { Meant K.Key.before (means self.now) };
+        ensures { result ≡ length (means self.now).rows };
 
     // The most comparisons that one place can cost.
     fn ceiling(&self) -> u32
         requires { opened self.now }
-        ensures answers { result ≡ (means self.now).ceiling }
-        ensures meant { Meant K.Key.before (means self.now) };
+        ensures { result ≡ (means self.now).ceiling };
 
     // Puts the row at a place into `held`; past the end it is declined, and `held` stays.
     fn row(&self, place: usize, held: &mut K) -> Result<(), Decline>
         requires { opened self.now }
         ensures answers { result ≡ row_answer (means self.now).rows place }
-        ensures puts { held.new ≡ slice_index_or (means self.now).rows place held.old }
-        ensures meant { Meant K.Key.before (means self.now) };
+        ensures puts { held.new ≡ slice_index_or (means self.now).rows place held.old };
 
     // The place of a key: how many rows are passed on that side.
     fn place(&self, key: &K, side: Side) -> Counted<usize>
         requires { opened self.now }
         ensures place { result.answer ≡ place_of K.Key.before (means self.now).rows key.now side }
-        ensures comparisons { result.comparisons ≡ (means self.now).comparisons key.now side }
-        ensures meant { Meant K.Key.before (means self.now) };
+        ensures comparisons { result.comparisons ≡ (means self.now).comparisons key.now side };
+
+    // what holds of every meaning
+    ghost meant: { (x : Self) → opened x → Meant K.Key.before (means x) };
 }

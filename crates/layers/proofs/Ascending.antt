@@ -1,9 +1,9 @@
 -- Numbers that ascend: where a number ranks among them, whether it is there, and that edits keep them ascending.
-use Rattle.std.proofs.Common.{◌≡◌, ℕ, zero, suc, ◌+◌, ◌-◌, ◌<◌, ◌≤◌, true, false, cond, eqb, List, [], ◌∷◌, length, get_or, is_some, Some, None, sym, refl, ap, ◌∙◌, subst, ⊎_elim, arith}
+use Rattle.std.proofs.Common.{◌≡◌, ℕ, zero, suc, ◌+◌, ◌-◌, ◌<◌, ◌≤◌, true, false, cond, eqb, List, [], ◌∷◌, length, get_or, Ok, Err, Result, sym, refl, ap, ◌∙◌, subst, ⊎_elim, arith}
 use Rattle.std.proofs.lemmas.Bool.{lt-ltb, le-ltb, eq-eqb, ne_eqb, cases_order, cases_eq, cases_lt, cases_Bool, or_left, or_right, false≢true}
 use Rattle.std.proofs.lemmas.List.Edits.{length-insert, get_or-insert_below, get_or-insert_at, get_or-insert_above, length-remove, get_or-remove_below, get_or-remove_above}
 use Rattle.std.specs.List.{insert, remove}
-use Rattle.layers.specs.Table.{Ascending, has, under, position_of}
+use Rattle.layers.specs.Table.{Ascending, has, under, search_answer}
 
 -- the first `at` numbers are below row, and the others are not
 pub record Ranked (l : List ℕ) (row at : ℕ) : Type 0 where
@@ -137,29 +137,58 @@ ascending_removed l at asc lt i j ij jl =
     (λ ig. let hi = get_or-remove_above l at 0 i ig lt in let hj = get_or-remove_above l at 0 j (omega arith) lt in let a = asc (i + 1) (j + 1) (omega arith) (omega arith) in omega arith)
     (cases_lt i at)
 
--- a number at a position is there, at its rank
+-- a number stands at its rank
+rank_at : (l : List ℕ) (row at : ℕ) → Ascending l → at < length l → get_or l at 0 ≡ row → at ≡ under l row
+rank_at l row at asc lt is = rank_is (record {
+  within = omega arith;
+  below = λ k h. omega (arith, asc k at h lt);
+  above = above_from l row at asc lt (omega arith);
+})
+
+-- a search that ends at a number of the list, or at the gap for it, is the rank
+pub found_is : (l : List ℕ) (row at : ℕ) → Ascending l → at < length l → get_or l at 0 ≡ row → Ok at ≡ search_answer l row
+found_is l row at asc lt is = rw (has_at l at row lt is) (ap Ok (rank_at l row at asc lt is))
+
+pub gap_is : (l : List ℕ) (row at : ℕ) → at ≤ length l → ((k : ℕ) → k < at → get_or l k 0 < row) → ((k : ℕ) → at ≤ k → k < length l → row < get_or l k 0) → Err at ≡ search_answer l row
+gap_is l row at le below above =
+    let gone : has l row ≡ false = has_none l row (λ k h e. ⊎_elim (λ lt. omega (arith, below k lt)) (λ ge. omega (arith, above k ge h)) (cases_lt k at)) in
+    rw gone (ap Err (rank_is (record { within = le; below = below; above = λ k g h. omega (arith, above k g h) })))
+
+-- what such an answer shows: the number is there, at its rank; or it is not
 pub record Stands (l : List ℕ) (row at : ℕ) : Type 0 where
   pub there : has l row ≡ true
   pub rank : at ≡ under l row
   pub within : at < length l
 
-pub stands : (l : List ℕ) (row at : ℕ) → Ascending l → Some at ≡ position_of l row → Stands l row at
+pub stands : (l : List ℕ) (row at : ℕ) → Ascending l → Ok at ≡ search_answer l row → Stands l row at
 stands l row at asc e = ⊎_elim
     (λ (t : has l row ≡ true).
-    let r : at ≡ under l row = some_same at (under l row) (e ∙ ap (λ b. cond b (Some (under l row)) None) t) in
+    let r : at ≡ under l row = ok_same at (under l row) (e ∙ ap (λ b. cond b (Ok (under l row)) (Err (under l row))) t) in
     record { there = t; rank = r; within = omega (arith, (stands_at l row asc t).0) })
-    (λ (f : has l row ≡ false). absurd (none_some at (sym (e ∙ ap (λ b. cond b (Some (under l row)) None) f))))
+    (λ (f : has l row ≡ false). absurd (ok_err at (under l row) (e ∙ ap (λ b. cond b (Ok (under l row)) (Err (under l row))) f)))
     (cases_Bool (has l row))
   where
-    some_same : (x y : ℕ) → Some x ≡ Some y → x ≡ y
-    some_same x y e = cc
+    ok_same : (x y : ℕ) → ◌≡◌ {A = Result ℕ ℕ} (Ok x) (Ok y) → x ≡ y
+    ok_same x y e = cc
 
-    none_some : (x : ℕ) → None ≡ Some x → ⊥
-    none_some x e = let z : ◌≡◌ {A = ℕ} 0 1 = cc in omega arith
+    ok_err : (x y : ℕ) → ◌≡◌ {A = Result ℕ ℕ} (Ok x) (Err y) → ⊥
+    ok_err x y e = let z : ◌≡◌ {A = ℕ} 0 1 = cc in omega arith
 
--- a number without a position is not there
-pub absent : (l : List ℕ) (row : ℕ) → is_some (position_of l row) ≡ false → has l row ≡ false
-absent l row e = ⊎_elim
-    (λ (t : has l row ≡ true). absurd (false≢true (sym e ∙ ap (λ b. is_some (cond b (Some (under l row)) None)) t)))
-    (λ f. f)
+pub record Fits (l : List ℕ) (row at : ℕ) : Type 0 where
+  pub absent : has l row ≡ false
+  pub rank : at ≡ under l row
+  pub ranked : Ranked l row at
+
+pub fits : (l : List ℕ) (row at : ℕ) → Ascending l → Err at ≡ search_answer l row → Fits l row at
+fits l row at asc e = ⊎_elim
+    (λ (t : has l row ≡ true). absurd (err_ok at (under l row) (e ∙ ap (λ b. cond b (Ok (under l row)) (Err (under l row))) t)))
+    (λ (f : has l row ≡ false).
+    let r : at ≡ under l row = err_same at (under l row) (e ∙ ap (λ b. cond b (Ok (under l row)) (Err (under l row))) f) in
+    record { absent = f; rank = r; ranked = subst (Ranked l row) (sym r) (ranked l row asc) })
     (cases_Bool (has l row))
+  where
+    err_same : (x y : ℕ) → ◌≡◌ {A = Result ℕ ℕ} (Err x) (Err y) → x ≡ y
+    err_same x y e = cc
+
+    err_ok : (x y : ℕ) → ◌≡◌ {A = Result ℕ ℕ} (Err x) (Ok y) → ⊥
+    err_ok x y e = let z : ◌≡◌ {A = ℕ} 0 1 = cc in omega arith

@@ -1,15 +1,16 @@
 -- What is in sight once rows are hidden: how many rows, which row at a place, the place of a key, the order.
-use Rattle.std.proofs.Common.{◌≡◌, ℕ, zero, suc, ◌+◌, ◌-◌, ◌<◌, ◌≤◌, Bool, true, false, cond, not, List, [], ◌∷◌, length, get_or, sym, refl, ap, ◌∙◌, subst, ⊎_elim, add-zero, add-one, arith}
+use Rattle.std.proofs.Common.{◌≡◌, ℕ, zero, suc, ◌+◌, ◌-◌, ◌<◌, ◌≤◌, Bool, true, false, cond, not, List, [], ◌∷◌, length, get_or, sym, refl, ap, ◌∙◌, subst, ⊎_elim, add-zero, arith}
 use Rattle.std.proofs.lemmas.Bool.{lt-ltb, le-ltb, eq-eqb, ne_eqb, cases_order, cases_lt, cases_Bool, not-false}
-use Rattle.std.proofs.ByRecursion.{All-weaker, All-get_or}
+use Rattle.std.proofs.ByRecursion.{All-weaker}
 use Rattle.std.specs.List.{AllByRecursion}
 use Rattle.keys.specs.Order.{Lawful}
 use Rattle.keys.specs.Orders.{laws}
-use Rattle.indexes.specs.Meaning.{count, passed, place_of, Ordered, Meaning, Meant}
+use Rattle.indexes.specs.Meaning.{count, passed, place_of, Meaning, Meant}
 use Rattle.indexes.specs.declared.index.Side.{Side}
 use Rattle.indexes.specs.declared.index.Side.TheVariants.{At, After}
 use Rattle.layers.specs.Table.{Ascending, has, under}
-use Rattle.layers.specs.Sight.{sighted, out_below, hidden}
+use Rattle.layers.specs.Sight.{sighted, out_below}
+use Rattle.layers.specs.Hiding.{length_sighted, Sorted, sorted}
 use Rattle.layers.proofs.Ascending.{has_none}
 
 -- ---- counts
@@ -47,13 +48,6 @@ front_count p out (x ∷ xs) f =
     let at_zero : P 0 = omega arith in
     subst P (sym zz) at_zero)
     (cases_Bool (p x))
-
-pub length_sighted : {K : Type 0} (out : ℕ → Bool) (xs : List K) → length (sighted out xs) + out_below out (length xs) ≡ length xs
-length_sighted out [] = refl
-length_sighted out (x ∷ xs) =
-    let rest = λ (i : ℕ). out (suc i) in
-    let ih : length (sighted rest xs) + out_below rest (length xs) ≡ length xs = length_sighted rest xs in
-    elim (out 0) as (λ b. length (cond b (sighted rest xs) (x ∷ sighted rest xs)) + (cond b 1 0 + out_below rest (length xs)) ≡ suc (length xs)) [ true ↦ omega arith | false ↦ omega arith ]
 
 pub out_below_le : (out : ℕ → Bool) (n : ℕ) → out_below out n ≤ n
 out_below_le out zero = omega arith
@@ -125,43 +119,9 @@ sighted_past out xs r j le e =
     let g2 : out_below out r ≤ out_below out (length xs) + (r - length xs) = subst (λ n. out_below out n ≤ out_below out (length xs) + (r - length xs)) s g in
     omega arith
 
--- ---- order
-
-abbrev pub Sorted : {K : Type 0} → (K → K → Bool) → List K → Type 0
-Sorted before [] = Unit {0}
-Sorted before (x ∷ xs) = AllByRecursion (λ y. before y x ≡ false) xs × Sorted before xs
+-- ---- places
 
 module _ {K : Type 0} (before : K → K → Bool) (lawful : Lawful before) where
-  pub sorted : (xs : List K) → Ordered before xs → Sorted before xs
-  sorted [] o = tt
-  sorted (x ∷ []) o = (tt, tt)
-  sorted (x ∷ (y ∷ ys)) o =
-      let rest : Sorted before (y ∷ ys) = sorted (y ∷ ys) (λ i d l. let e : suc i + 1 ≡ suc (i + 1) = omega arith in subst (λ n. before (get_or (x ∷ (y ∷ ys)) n d) (get_or (y ∷ ys) i d) ≡ false) e (o (suc i) d (omega arith))) in
-      let first : before y x ≡ false = o 0 x (omega arith) in
-      ((first, All-weaker (λ z. before z y ≡ false) (λ z. before z x ≡ false) (λ z h. (laws lawful).chain z y x h first) ys rest.0), rest)
-
-  pub ordered : (xs : List K) → Sorted before xs → Ordered before xs
-  ordered xs s i d l = rw add-one (next xs s i d (omega arith))
-    where
-      next : (xs : List K) → Sorted before xs → (i : ℕ) (d : K) → suc i < length xs → before (get_or xs (suc i) d) (get_or xs i d) ≡ false
-      next [] s i d l = absurd (omega arith)
-      next (x ∷ xs) s zero d l = All-get_or (λ y. before y x ≡ false) xs 0 d (omega arith) s.0
-      next (x ∷ xs) s (suc i) d l = next xs s.1 i d (omega arith)
-
-  all_sighted : (P : K → Type 0) (out : ℕ → Bool) (xs : List K) → AllByRecursion P xs → AllByRecursion P (sighted out xs)
-  all_sighted P out [] a = tt
-  all_sighted P out (x ∷ xs) a =
-      let rest = λ (i : ℕ). out (suc i) in
-      let ih = all_sighted P rest xs a.1 in
-      elim (out 0) as (λ b. AllByRecursion P (cond b (sighted rest xs) (x ∷ sighted rest xs))) [ true ↦ ih | false ↦ (a.0, ih) ]
-
-  pub sorted_sighted : (out : ℕ → Bool) (xs : List K) → Sorted before xs → Sorted before (sighted out xs)
-  sorted_sighted out [] s = tt
-  sorted_sighted out (x ∷ xs) s =
-      let rest = λ (i : ℕ). out (suc i) in
-      let ih = sorted_sighted rest xs s.1 in
-      elim (out 0) as (λ b. Sorted before (cond b (sighted rest xs) (x ∷ sighted rest xs))) [ true ↦ ih | false ↦ (all_sighted (λ y. before y x ≡ false) rest xs s.0, ih) ]
-
   none_passed : (p : K → Bool) (xs : List K) → AllByRecursion (λ y. p y ≡ false) xs → count p xs ≡ 0
   none_passed p [] a = refl
   none_passed p (x ∷ xs) a = rw (a.0, none_passed p xs a.1) refl
@@ -179,14 +139,6 @@ module _ {K : Type 0} (before : K → K → Bool) (lawful : Lawful before) where
 -- ---- a strike list, whole
 
 module _ {K : Type 0} {before : K → K → Bool} (lawful : Lawful before) {m : Meaning K} (keeps : Meant before m) where
-  pub meant_sighted : (out : ℕ → Bool) → Meant before (hidden out m)
-  meant_sighted out = record {
-    ordered = ordered before lawful (sighted out m.rows) (sorted_sighted before lawful out m.rows (sorted before lawful m.rows keeps.ordered));
-    few = (let h = length_sighted out m.rows in let f = keeps.few in omega arith);
-    capped = keeps.capped;
-    modest = keeps.modest;
-  }
-
   pub place_sighted : (l : List ℕ) → Ascending l → (key : K) (side : Side) → place_of before (sighted (has l) m.rows) key side + under l (place_of before m.rows key side) ≡ place_of before m.rows key side
   place_sighted l asc key side =
       let h = front_count (passed before key side) (has l) m.rows (front before lawful key side m.rows (sorted before lawful m.rows keeps.ordered)) in

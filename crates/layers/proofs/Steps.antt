@@ -1,18 +1,19 @@
 -- One call on a strike list against the reference.
-use Rattle.std.proofs.Common.{◌≡◌, ℕ, ◌<◌, Bool, true, false, cond, ltb, leb, List, length, Ok, Err, Result, sym, refl, ap, ◌∙◌, subst, ⊎_elim, arith}
+use Rattle.std.proofs.Common.{◌≡◌, ℕ, ◌<◌, Bool, true, false, cond, ltb, leb, List, length, Ok, Err, Result, is_ok, sym, refl, ap, ◌∙◌, subst, ⊎_elim, arith}
 use mathlib.Core.Path.{fun_ext}
-use Rattle.std.proofs.lemmas.Bool.{cases_Bool, cases_eq, eq-eqb, ne_eqb, ltb-true, false≢true}
+use Rattle.std.proofs.lemmas.Bool.{cond-true, cases_Bool, cases_eq, eq-eqb, ne_eqb, ltb-true, false≢true}
+use Rattle.keys.specs.declared.Key as key
+use Rattle.indexes.specs.declared.index.Index as index
 use Rattle.indexes.specs.Meaning.{Meaning}
 use Rattle.indexes.specs.declared.decline.Decline.{Decline}
 use Rattle.indexes.specs.declared.decline.Decline.TheVariants.{NoSuchRow, AlreadySo}
 use Rattle.layers.specs.declared.calls.Call.{Call}
 use Rattle.layers.specs.declared.calls.Call.TheVariants as call
-use Rattle.layers.specs.declared.calls.Answer.{Answer}
 use Rattle.layers.specs.declared.calls.Answer.TheVariants as answer
 use Rattle.layers.specs.Table.{Ascending, has, under, Within, number_answer, strike_answer, restore_answer, with_number, without_number}
 use Rattle.layers.specs.Sight.{out_below}
 use Rattle.layers.specs.declared.strike_list.StrikeList.{StrikeList}
-use Rattle.layers.specs.Reference.{reply, set_after, fed, accepted, as_answer, counted, Step}
+use Rattle.layers.specs.Reference.{reply, set_after, fed, as_answer, counted, Reply, Step}
 use Rattle.layers.proofs.Sights.{out_under}
 use Rattle.layers.proofs.Ascending.{stands_at}
 use Rattle.layers.proofs.Members.{has_inserted, has_removed, under_all}
@@ -21,9 +22,13 @@ err_ok : (d : Decline) (u : Unit {0}) → ◌≡◌ {A = Result (Unit {0}) Decli
 err_ok d u e = let z : ◌≡◌ {A = ℕ} 0 1 = cc in omega arith
 
 -- a row number that is answered is inside
-pub inside : (n row : ℕ) (u : Unit {0}) → Ok u ≡ number_answer n row → ltb row n ≡ true
+inside : (n row : ℕ) (u : Unit {0}) → Ok u ≡ number_answer n row → ltb row n ≡ true
 inside n row u e =
     ⊎_elim (λ t. t) (λ (f : ltb row n ≡ false). absurd (err_ok NoSuchRow u (e ∙ rw f refl))) (cases_Bool (ltb row n))
+
+-- where the row number is one, the table's answer is the call's
+pub answered : (n row : ℕ) (u : Unit {0}) {r a : Result (Unit {0}) Decline} → Ok u ≡ number_answer n row → r ≡ a → r ≡ cond (ltb row n) a (Err NoSuchRow)
+answered n row u is e = e ∙ sym (cond-true _ _ _ (inside n row u is))
 
 -- what an accepted call shows of its row
 pub record Accepts (n : ℕ) (l : List ℕ) (row : ℕ) (there : Bool) : Type 0 where
@@ -70,11 +75,11 @@ without_within n l row asc (Ok u) e w r h =
     (cases_eq r row)
 
 module _ {K : Type 0} (before : K → K → Bool) (m : Meaning K) where
-  kept : (out : ℕ → Bool) (c : Call K) (d : Decline) → answer.Declined d ≡ reply before m out c → out ≡ set_after before m out c
-  kept out c d e = fun_ext (λ q. ap (λ a. cond (accepted a) (fed out c q) (out q)) e)
+  kept : (out : ℕ → Bool) (c : Call K) (d : Decline) → Err d ≡ reply before m out c → out ≡ set_after before m out c
+  kept out c d e = fun_ext (λ q. ap (λ a. cond (is_ok a) (fed out c q) (out q)) e)
 
-  done : (out : ℕ → Bool) (c : Call K) → answer.Done ≡ reply before m out c → fed out c ≡ set_after before m out c
-  done out c e = fun_ext (λ q. ap (λ a. cond (accepted a) (fed out c q) (out q)) e)
+  done : (out : ℕ → Bool) (c : Call K) → Ok answer.Done ≡ reply before m out c → fed out c ≡ set_after before m out c
+  done out c e = fun_ext (λ q. ap (λ a. cond (is_ok a) (fed out c q) (out q)) e)
 
   -- a strike and a restore are answered as by the reference
   module _ (l : List ℕ) (asc : Ascending l) (w : Within l (length m.rows)) (row : ℕ) where
@@ -124,11 +129,11 @@ module _ {K : Type 0} (before : K → K → Bool) (m : Meaning K) where
 
   -- a call that feeds the set nothing leaves it
   pub quiet : (out : ℕ → Bool) (c : Call K) → fed out c ≡ out → out ≡ set_after before m out c
-  quiet out c f = fun_ext (λ q. same_both (accepted (reply before m out c)) (out q) ∙ sym (ap (λ (s : ℕ → Bool). cond (accepted (reply before m out c)) (s q) (out q)) f))
+  quiet out c f = fun_ext (λ q. same_both (is_ok (reply before m out c)) (out q) ∙ sym (ap (λ (s : ℕ → Bool). cond (is_ok (reply before m out c)) (s q) (out q)) f))
 
 -- a step by the call that was matched
-pub called : {K I : Type 0} {before : K → K → Bool} {means : I → Meaning K} {list left : StrikeList K I} {a : Answer K} {c c' : Call K} → c ≡ c' → Step before means list c' a left → Step before means list c a left
-called {before = before} {means = means} {list = list} {left = left} {a = a} e h = subst (λ x. Step before means list x a left) (sym e) h
+pub called : {K I : Type 0} {k : key.Ghosts K} {i : index.Ghosts I K} {list left : StrikeList K I k i} {a : Reply K} {c c' : Call K} → c ≡ c' → Step list c' a left → Step list c a left
+called {list = list} {left = left} {a = a} e h = subst (λ x. Step list x a left) (sym e) h
 
-pub counted_is : {K : Type 0} {p p' n n' : ℕ} → p ≡ p' → n ≡ n' → ◌≡◌ {A = Answer K} (answer.Place (counted p n)) (answer.Place (counted p' n'))
-counted_is {p' = p'} {n = n} e f = ap (λ m. answer.Place (counted m n)) e ∙ ap (λ m. answer.Place (counted p' m)) f
+pub counted_is : {K : Type 0} {p p' n n' : ℕ} → p ≡ p' → n ≡ n' → ◌≡◌ {A = Reply K} (Ok (answer.Place (counted p n))) (Ok (answer.Place (counted p' n')))
+counted_is {p' = p'} {n = n} e f = ap (λ m. Ok (answer.Place (counted m n))) e ∙ ap (λ m. Ok (answer.Place (counted p' m))) f

@@ -1,3 +1,5 @@
+pub mod Held
+pub mod Hiding
 pub mod Reference
 pub mod Sight
 pub mod Table

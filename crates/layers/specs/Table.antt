@@ -1,5 +1,5 @@
 -- The table of struck rows: which lists it may hold, what is asked of them and how they change. Assumes nothing.
-use Rattle.std.specs.Prelude.{◌≡◌, ℕ, ◌+◌, ◌<◌, Bool, true, false, cond, ◌||◌, List, [], ◌∷◌, map, length, Some, None, Ok, Err, Option, Result, ◌==◌, nat_le, nat_lt, slice_index}
+use Rattle.std.specs.Prelude.{◌≡◌, ℕ, ◌+◌, ◌<◌, Bool, true, false, cond, ◌||◌, List, [], ◌∷◌, map, length, Ok, Err, Result, ◌==◌, nat_le, nat_lt, slice_index}
 use Rattle.std.specs.List.{insert, remove}
 use Rattle.indexes.specs.declared.decline.Decline.{Decline}
 use Rattle.indexes.specs.declared.decline.Decline.TheVariants.{NoSuchRow, AlreadySo, ListFull}
@@ -27,9 +27,9 @@ abbrev pub under : List ℕ → ℕ → ℕ
 under [] r = 0
 under (x ∷ xs) r = cond (nat_lt x r) 1 0 + under xs r
 
--- where a number of the list stands: behind those below it
-abbrev pub position_of : List ℕ → ℕ → Option ℕ
-position_of l row = cond (has l row) (Some (under l row)) None
+-- where a number of the list stands, or where it would go: behind those below it
+abbrev pub search_answer : List ℕ → ℕ → Result ℕ ℕ
+search_answer l row = cond (has l row) (Ok (under l row)) (Err (under l row))
 
 -- each number of the list is below n
 abbrev pub Within : List ℕ → ℕ → Type 0

@@ -1,8 +1,8 @@
 // What may be asked of a strike list, and what it answers.
-use indexes::{Counted, Decline, Side};
+use indexes::{Counted, Side};
 
 // Row numbers are those of the index below; places are among the rows in sight.
-#[derive(Clone, Copy)]
+#[derive(Clone, Copy, PartialEq, Eq, Debug)]
 pub enum Call<K> {
     Strike(u32),
     Restore(u32),
@@ -12,9 +12,8 @@ pub enum Call<K> {
     Place(K, Side),
 }
 
-#[derive(Clone, Copy)]
+#[derive(Clone, Copy, PartialEq, Eq, Debug)]
 pub enum Answer<K> {
-    Declined(Decline),
     // struck or restored
     Done,
     // how many rows are in sight

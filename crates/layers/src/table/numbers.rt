@@ -1,7 +1,8 @@
 // What is asked of the table of struck rows, and how it changes.
-ghost use Rattle.std.specs.Prelude.{◌≡◌, ◌+◌, ◌-◌, ◌^◌, ◌<◌, ◌≤◌, false, [], nat_le};
-ghost use Rattle.layers.specs.Table.{listed, has, under, position_of, insert_answer, remove_answer, with_number, without_number};
-ghost use Rattle.layers.specs.Views.{numbers};
+ghost use Rattle.std.specs.Prelude.{◌≡◌, ◌+◌, ◌-◌, ◌^◌, ◌<◌, ◌≤◌, false, [], nat_le, take};
+ghost use Rattle.std.specs.List.Sorted.{IsSearchInRange};
+ghost use Rattle.layers.specs.Table.{has, under, search_answer, insert_answer, remove_answer, with_number, without_number};
+ghost use Rattle.layers.specs.Held.{numbers};
 
 use super::{StruckRow, StruckRows};
 use indexes::Decline;
@@ -21,33 +22,25 @@ impl StruckRows {
 
     // The rows struck now.
     pub(crate) fn as_slice(&self) -> &[StruckRow]
-        ensures { listed result.now ≡ numbers self.now }
+        ensures { result.now ≡ take self.now.len self.now.entries }
     {
         &self.entries[0..self.len]
     }
 
-    // How many of the numbers are below `row`: where it stands, or where it would go.
-    pub(crate) fn rank(&self, row: u32) -> usize
-        ensures count { result ≡ under (numbers self.now) row }
-        ensures within { result ≤ self.now.len }
+    // Where the row stands among those struck, or where it would go.
+    fn search(&self, row: u32) -> Result<usize, usize>
+        ensures answers { result ≡ search_answer (numbers self.now) row }
+        ensures within { IsSearchInRange result self.now.len }
     {
-        let mut at = 0;
-        while at < self.len && self.entries[at].number < row {
-            at += 1;
-        }
-        at
+        self.as_slice()
+            .binary_search_by_key(&row, |struck| struck.number)
     }
 
-    // Where the row stands, if it is struck.
-    pub(crate) fn position(&self, row: u32) -> Option<usize>
-        ensures { result ≡ position_of (numbers self.now) row }
+    // How many of the numbers are below `row`.
+    fn rank(&self, row: u32) -> usize
+        ensures { result ≡ under (numbers self.now) row }
     {
-        let at = self.rank(row);
-        if at < self.len && self.entries[at].number == row {
-            Some(at)
-        } else {
-            None
-        }
+        self.search(row).unwrap_or_else(|at| at)
     }
 
     // How many of the first `number` rows below are in sight.
@@ -72,10 +65,9 @@ impl StruckRows {
         ensures rank { result ≡ place + under (numbers self.now) result }
         ensures free { has (numbers self.now) result ≡ false }
     {
-        let mut at = 0;
-        while at < self.len && self.entries[at].number as usize <= place + at {
-            at += 1;
-        }
+        let at = (0..self.len)
+            .find(|at| place + *at < self.entries[*at].number as usize)
+            .unwrap_or(self.len);
         place + at
     }
 
@@ -83,24 +75,25 @@ impl StruckRows {
         ensures answers { result ≡ insert_answer (numbers self.old) row }
         ensures holds { numbers self.new ≡ with_number result (numbers self.old) row }
     {
-        if self.position(row).is_some() {
-            return Err(Decline::AlreadySo);
+        match self.search(row) {
+            Ok(_) => Err(Decline::AlreadySo),
+            Err(_) if self.is_full() => Err(Decline::ListFull),
+            Err(at) => {
+                self.entries.copy_within(at..self.len, at + 1);
+                self.entries[at] = StruckRow { number: row };
+                self.len += 1;
+                Ok(())
+            }
         }
-        if self.is_full() {
-            return Err(Decline::ListFull);
-        }
-        let at = self.rank(row);
-        self.entries.copy_within(at..self.len, at + 1);
-        self.entries[at] = StruckRow { number: row };
-        self.len += 1;
-        Ok(())
     }
 
     pub(crate) fn remove(&mut self, row: u32) -> Result<(), Decline>
         ensures answers { result ≡ remove_answer (numbers self.old) row }
         ensures holds { numbers self.new ≡ without_number result (numbers self.old) row }
     {
-        let at = self.position(row).ok_or(Decline::AlreadySo)?;
+        let Ok(at) = self.search(row) else {
+            return Err(Decline::AlreadySo);
+        };
         self.entries.copy_within(at + 1..self.len, at);
         self.len -= 1;
         Ok(())

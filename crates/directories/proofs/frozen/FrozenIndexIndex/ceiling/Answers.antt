@@ -13,4 +13,4 @@ pub returns : goal.returns
 returns g c =
     let x = c.args.self.now in
     let k = ceiling x.layout (length (column_of x)) x.shape c.requires.fine c.requires.meant.few c.requires.shaped in
-    record { answers = c.most_comparisons.ensures ∙ k.is; meant = c.requires.meant }
+    c.most_comparisons.ensures ∙ k.is

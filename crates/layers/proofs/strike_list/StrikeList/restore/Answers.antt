@@ -1,23 +1,18 @@
 -- The row is one of the index below, so the table answers; its numbers stay in range.
-use Rattle.std.proofs.Common.{◌≡◌, length, sym, refl, ◌∙◌, subst}
-use Rattle.std.proofs.lemmas.Bool.{cond-true}
-use Rattle.layers.specs.Table.{Within, restore_answer}
-use Rattle.layers.specs.Views.{numbers}
-use Rattle.layers.proofs.Steps.{inside, without_within}
+use Rattle.std.proofs.Common.{length, sym, refl, subst}
+use Rattle.layers.specs.Held.{numbers}
+use Rattle.layers.specs.Table.{Within}
+use Rattle.layers.proofs.Steps.{answered, without_within}
 use Rattle.layers.proofs.strike_list.StrikeList.restore.Goals as goal
+
+pub invariant_of-self : goal.invariant_of-self
+invariant_of-self g c =
+    let s = c.args.self.now in
+    let n = length (g.I.Index.means s.below).rows in
+    let is = answered n c.args.row _ c.in_ok-below_has.ensures c.remove.ensures.answers in
+    record { within = subst (λ l. Within l n) (sym c.remove.ensures.holds) (without_within n (numbers s.struck) c.args.row s.struck.rising _ is s.within) }
 
 pub returns : goal.returns
 returns g c =
-    let s = c.args.self.now in
-    let n = length (g.I.Index.means s.below).rows in
-    let e : c.remove.result ≡ restore_answer n (numbers s.struck) c.args.row =
-    c.remove.ensures.answers ∙ sym (cond-true _ _ _ (inside n c.args.row _ c.in_ok-below_has.ensures)) in
-    record {
-      answers = e;
-      holds = c.remove.ensures.holds;
-      below = refl;
-      opened = record {
-        opens = c.requires.opens;
-        within = subst (λ l. Within l n) (sym c.remove.ensures.holds) (without_within n (numbers s.struck) c.args.row s.struck.rising c.remove.result e c.requires.within);
-      };
-    }
+    let n = length (g.I.Index.means c.args.self.now.below).rows in
+    record { answers = answered n c.args.row _ c.in_ok-below_has.ensures c.remove.ensures.answers; holds = c.remove.ensures.holds; below = refl }

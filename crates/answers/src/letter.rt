@@ -1,0 +1,31 @@
+// The letter that a line begins with.
+ghost use Rattle.std.specs.Prelude.{[], ◌∷◌, Some};
+ghost use Rattle.answers.specs.Letters.{code};
+
+use std::fmt;
+
+// A call's letter is its field's in the sheet, and so is a column's.
+#[derive(Clone, Copy, PartialEq, Eq, Debug)]
+pub(crate) enum Letter {
+    Malformed,
+    Accounts,
+    Labels,
+    Strike,
+    Restore,
+    Place,
+}
+
+impl fmt::Display for Letter {
+    ghost output = { λ letter. Some (code letter ∷ []) };
+
+    fn fmt<W: fmt::Write>(&self, f: &mut fmt::Formatter<W>) -> fmt::Result {
+        f.write_str(match self {
+            Letter::Malformed => "X",
+            Letter::Accounts => "K",
+            Letter::Labels => "T",
+            Letter::Strike => "S",
+            Letter::Restore => "R",
+            Letter::Place => "Q",
+        })
+    }
+}

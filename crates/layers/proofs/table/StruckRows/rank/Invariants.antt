@@ -1,9 +1,0 @@
-use Rattle.std.proofs.Common.{ℕ, ◌-◌, ◌<◌, ◌≤◌, get_or}
-use Rattle.layers.specs.Views.{numbers}
-use Rattle.layers.proofs.table.StruckRows.rank.Given as goal
-
-abbrev pub invariant-loop-at : goal.invariant-loop-at
-invariant-loop-at l = (l.at ≤ l.self.len) × ((k : ℕ) → k < l.at → get_or (numbers l.self) k 0 < l.row)
-
-abbrev pub decreases-loop-at : goal.decreases-loop-at
-decreases-loop-at l = l.self.len - l.at
