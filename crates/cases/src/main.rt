@@ -1,17 +1,17 @@
 // Tries the library against a reader of every row, and prints a table: what was tried, how often, how often it differed.
 //
-// `question` has a question in plain values, `written` its bytes, `reader` the answer that the rules give, `table` what
-// was found. Expected texts are worked by hand or come from the reader, never from the library. A case that differs
-// changes the table, and with it what the program is expected to print.
+// `question` has a question in plain values, `written` its bytes, `reader` the answer that the rules give, `draws`
+// questions that are drawn, `trial` what was found. Expected texts are worked by hand or come from the reader, never
+// from the library. A case that differs changes the table, and with it what the program is expected to print.
 
 #![tactic(auto)]
 
+mod draws;
 mod groups;
 mod question;
-mod random;
 mod reader;
 mod sorted;
-mod table;
+mod trial;
 mod written;
 
 use groups::{
@@ -19,47 +19,83 @@ use groups::{
     strikes,
 };
 use question::Kind;
-use std::alloc::Global;
-use table::Tally;
+use std::io;
+use trial::Trial;
+use trials::{Group, Tally, Widths};
 
-// Sheets that are built for one rule each, and sheets that are drawn.
-fn groups_of(heap: Global) -> [(&'static str, Tally); 11] {
-    [
-        (
-            "every key over few rows and equal rows",
-            every_key::tried(heap),
-        ),
-        ("labels that differ only in case", letter_case::tried(heap)),
-        ("strikes and restores", strikes::tried(heap)),
-        (
-            "columns out of order, sheets without calls",
-            out_of_order::tried(heap),
-        ),
-        ("malformed sheets by hand", malformed::tried(heap)),
-        ("every byte changed, every length", every_byte::tried(heap)),
-        ("good sheets cut at every length", cuts::tried(heap)),
-        ("sheets of 65,536 and 65,537 bytes", longest::tried(heap)),
-        (
-            "random sheets of accounts",
-            random_sheets::tried(heap, Kind::Accounts, 2000, 60),
-        ),
-        (
-            "random sheets of labels",
-            random_sheets::tried(heap, Kind::Labels, 2000, 60),
-        ),
-        (
-            "random sheets with many calls",
-            random_sheets::tried(heap, Kind::Accounts, 200, 600),
-        ),
-    ]
+const WIDTHS: Widths = Widths { name: 52, tried: 6 };
+
+// Tries a group, prints its line, and adds it to the sum.
+fn group<F: FnOnce(&mut Trial)>(
+    rt: &HostRuntime,
+    sum: &mut Tally,
+    name: &str,
+    tried: F,
+) -> io::Result<()>
+    requires { F.IsAlwaysCallable tried }
+{
+    let mut trial = Trial::new(rt.alloc());
+    tried(&mut trial);
+    let found = trial.tally;
+    let line = Group {
+        name,
+        found,
+        widths: WIDTHS,
+    };
+    *sum += found;
+    println!(rt; "{line}")
+}
+
+// Sheets that are built for one rule each.
+fn built(rt: &HostRuntime, sum: &mut Tally) -> io::Result<()> {
+    group(
+        rt,
+        sum,
+        "every key over few rows and equal rows",
+        every_key::tried,
+    )?;
+    group(
+        rt,
+        sum,
+        "labels that differ only in case",
+        letter_case::tried,
+    )?;
+    group(rt, sum, "strikes and restores", strikes::tried)?;
+    group(
+        rt,
+        sum,
+        "columns out of order, sheets without calls",
+        out_of_order::tried,
+    )?;
+    group(rt, sum, "malformed sheets by hand", malformed::tried)?;
+    group(
+        rt,
+        sum,
+        "every byte changed, every length",
+        every_byte::tried,
+    )?;
+    group(rt, sum, "good sheets cut at every length", cuts::tried)?;
+    group(rt, sum, "sheets of 65,536 and 65,537 bytes", longest::tried)
+}
+
+// Sheets that are drawn.
+fn drawn(rt: &HostRuntime, sum: &mut Tally) -> io::Result<()> {
+    group(rt, sum, "random sheets of accounts", |trial| {
+        random_sheets::tried(trial, Kind::Accounts, 2000, 60)
+    })?;
+    group(rt, sum, "random sheets of labels", |trial| {
+        random_sheets::tried(trial, Kind::Labels, 2000, 60)
+    })?;
+    group(rt, sum, "random sheets with many calls", |trial| {
+        random_sheets::tried(trial, Kind::Accounts, 200, 600)
+    })
 }
 
 fn run(rt: &HostRuntime) -> anyhow::Result<()> {
-    let mut all = Tally::new();
-    for (name, found) in groups_of(rt.alloc()) {
-        all.group(rt, name, found)?;
-    }
-    all.total(rt)?;
+    let mut sum = Tally::new();
+    built(rt, &mut sum)?;
+    drawn(rt, &mut sum)?;
+    println!(rt; "{sum}")?;
     Ok(())
 }
 

@@ -1,24 +1,25 @@
 // A question in plain values, before it is written as a sheet's bytes.
+// Its types stand apart from the library's: who reads and writes them shares nothing with what is tried.
 
-#[derive(Clone, Copy)]
+#[derive(Clone, Copy, PartialEq, Eq, Debug)]
 pub enum Kind {
     Accounts,
     Labels,
 }
 
-#[derive(Clone, Copy)]
+#[derive(Clone, Copy, PartialEq, Eq, Debug)]
 pub enum PlainKey {
     Account(u32),
     Label([u8; 16]),
 }
 
-#[derive(Clone, Copy)]
+#[derive(Clone, Copy, PartialEq, Eq, Debug)]
 pub enum PlainSide {
     At,
     After,
 }
 
-#[derive(Clone, Copy)]
+#[derive(Clone, Copy, PartialEq, Eq, Debug)]
 pub enum Ask {
     Strike(u32),
     Restore(u32),

@@ -19,19 +19,26 @@ fn add_key(bytes: &mut Vec<u8>, key: &PlainKey) -> Result<(), AllocError> {
     }
 }
 
-fn add_place(
-    heap: Global,
-    sheet: &mut Vec<u8>,
-    side: PlainSide,
-    key: &PlainKey,
-) -> Result<(), AllocError> {
-    let mut value = Vec::new(heap);
-    value.push(match side {
-        PlainSide::At => b'a',
-        PlainSide::After => b'n',
-    })?;
-    add_key(&mut value, key)?;
-    add_field(sheet, b'Q', value.as_slice())
+impl PlainSide {
+    fn letter(self) -> u8 {
+        match self {
+            PlainSide::At => b'a',
+            PlainSide::After => b'n',
+        }
+    }
+}
+
+// Adds the field of a call.
+fn add_ask(heap: Global, sheet: &mut Vec<u8>, ask: &Ask) -> Result<(), AllocError> {
+    match *ask {
+        Ask::Strike(row) => add_field(sheet, b'S', &row.to_be_bytes()),
+        Ask::Restore(row) => add_field(sheet, b'R', &row.to_be_bytes()),
+        Ask::Place(side, key) => {
+            let mut value = vec![in heap; side.letter()]?;
+            add_key(&mut value, &key)?;
+            add_field(sheet, b'Q', value.as_slice())
+        }
+    }
 }
 
 // The sheet that asks a question.
@@ -43,11 +50,7 @@ pub fn sheet_of(heap: Global, question: &Question<'_>) -> Result<Vec<u8>, AllocE
     }
     add_field(&mut sheet, question.kind.tag(), column.as_slice())?;
     for ask in question.asks {
-        match ask {
-            Ask::Strike(row) => add_field(&mut sheet, b'S', &row.to_be_bytes())?,
-            Ask::Restore(row) => add_field(&mut sheet, b'R', &row.to_be_bytes())?,
-            Ask::Place(side, key) => add_place(heap, &mut sheet, *side, key)?,
-        }
+        add_ask(heap, &mut sheet, ask)?;
     }
     Ok(sheet)
 }

@@ -1,8 +1,8 @@
 // Tries columns and strike lists directly, over keys that no sheet has, against a reader of every row.
 //
 // `ranked` gives each kind of key a number of the same order, `seen` is the reader, `pile` builds columns and strike
-// lists above one another, `opening` opens columns that are declined, and `tally` counts what was tried.
-// Expected values come from the rules, by plain loops; a case that differs changes what is printed.
+// lists above one another, and `opening` opens columns that are declined.
+// Expected values come from the rules, over every row; a case that differs changes what is printed.
 
 #![tactic(auto)]
 
@@ -10,91 +10,84 @@ mod opening;
 mod pile;
 mod ranked;
 mod seen;
-mod tally;
 
 use keys::{Account, Amount, Pair, Reversed};
 use pile::piled;
 use std::alloc::{AllocError, Global};
-use tally::Tally;
+use std::io;
+use trials::{Group, Tally, Widths};
 
-fn amount(cents: i64) -> Amount {
-    Amount { cents }
-}
-
-fn pair(number: u32, cents: i64) -> Pair<Account, Amount> {
-    Pair {
-        first: Account { number },
-        second: Amount { cents },
-    }
-}
-
-fn reversed(number: u32) -> Reversed<Account> {
-    Reversed {
-        key: Account { number },
-    }
-}
+const WIDTHS: Widths = Widths { name: 52, tried: 6 };
 
 fn amounts(heap: Global) -> Result<Tally, AllocError> {
-    let column = [
-        amount(i64::MIN),
-        amount(-500),
-        amount(-500),
-        amount(-1),
-        amount(0),
-        amount(0),
-        amount(7),
-        amount(i64::MAX),
-    ];
-    let between = [amount(-501), amount(-2), amount(1), amount(i64::MAX - 1)];
+    let column = [i64::MIN, -500, -500, -1, 0, 0, 7, i64::MAX].map(Amount::from);
+    let between = [-501, -2, 1, i64::MAX - 1].map(Amount::from);
     piled(heap, &column, &between, &[2, 4, 7], &[0, 3])
+}
+
+fn pair((number, cents): (u32, i64)) -> Pair<Account, Amount> {
+    Pair {
+        first: Account::from(number),
+        second: Amount::from(cents),
+    }
 }
 
 fn pairs(heap: Global) -> Result<Tally, AllocError> {
     let column = [
-        pair(1, -5),
-        pair(1, 3),
-        pair(2, -9),
-        pair(2, -9),
-        pair(2, 0),
-        pair(7, -1),
-        pair(u32::MAX, i64::MIN),
-    ];
-    let between = [
-        pair(0, 9),
-        pair(1, 4),
-        pair(2, -10),
-        pair(3, 0),
-        pair(u32::MAX, 0),
-    ];
+        (1, -5),
+        (1, 3),
+        (2, -9),
+        (2, -9),
+        (2, 0),
+        (7, -1),
+        (u32::MAX, i64::MIN),
+    ]
+    .map(pair);
+    let between = [(0, 9), (1, 4), (2, -10), (3, 0), (u32::MAX, 0)].map(pair);
     piled(heap, &column, &between, &[3, 0, 6], &[2, 1, 0])
 }
 
+fn reversed(number: u32) -> Reversed<Account> {
+    Reversed {
+        key: Account::from(number),
+    }
+}
+
 fn falling(heap: Global) -> Result<Tally, AllocError> {
-    let column = [
-        reversed(u32::MAX),
-        reversed(50),
-        reversed(50),
-        reversed(50),
-        reversed(40),
-        reversed(20),
-        reversed(0),
-    ];
-    let between = [reversed(51), reversed(45), reversed(19), reversed(1)];
+    let column = [u32::MAX, 50, 50, 50, 40, 20, 0].map(reversed);
+    let between = [51, 45, 19, 1].map(reversed);
     piled(heap, &column, &between, &[1, 2, 3], &[3])
+}
+
+// Prints the line of a group, and adds it to the sum.
+fn group(rt: &HostRuntime, sum: &mut Tally, name: &str, found: Tally) -> io::Result<()> {
+    let line = Group {
+        name,
+        found,
+        widths: WIDTHS,
+    };
+    *sum += found;
+    println!(rt; "{line}")
 }
 
 fn run(rt: &HostRuntime) -> anyhow::Result<()> {
     let heap = rt.alloc();
-    let mut all = Tally::new();
-    all.group(rt, "strike lists over amounts", amounts(heap)?)?;
-    all.group(rt, "strike lists over pairs", pairs(heap)?)?;
-    all.group(rt, "strike lists over reversed accounts", falling(heap)?)?;
-    all.group(
+    let mut sum = Tally::new();
+    group(rt, &mut sum, "strike lists over amounts", amounts(heap)?)?;
+    group(rt, &mut sum, "strike lists over pairs", pairs(heap)?)?;
+    group(
         rt,
+        &mut sum,
+        "strike lists over reversed accounts",
+        falling(heap)?,
+    )?;
+    group(
+        rt,
+        &mut sum,
         "columns opened, declined and opened again",
         opening::tried(heap)?,
     )?;
-    all.total(rt)?;
+    println!(rt; "{sum}")?;
     Ok(())
 }
 

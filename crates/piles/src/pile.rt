@@ -1,26 +1,16 @@
 // Strike lists over a column, over a reference to it, and over one another.
-ghost use Rattle.layers.specs.Views.{Kept};
+ghost use Rattle.std.specs.Prelude.{◌≡◌};
 
 use crate::ranked::Ranked;
 use crate::seen::{agrees, in_sight, ranks_of};
-use crate::tally::Tally;
 use directories::FrozenIndex;
 use indexes::{Index, Layout};
 use keys::Key;
 use layers::StrikeList;
 use std::alloc::{AllocError, Global};
+use trials::Tally;
 
-// Strikes rows that are there and not struck yet: each is accepted.
-fn strike_all<K: Key, I: Index<K>>(tally: &mut Tally, list: &mut StrikeList<K, I>, rows: &[u32])
-    requires { Kept I.Index.opened I.Index.means list.old }
-    ensures { Kept I.Index.opened I.Index.means list.new }
-{
-    for row in rows {
-        tally.note(list.strike(*row).is_ok());
-    }
-}
-
-// A strike list above an index whose rows are `ranks`, and the rows that it shows.
+// A strike list above an index, with rows struck that are there, and the rows that it shows then.
 fn above<K: Key + Ranked, I: Index<K>>(
     tally: &mut Tally,
     below: I,
@@ -29,10 +19,12 @@ fn above<K: Key + Ranked, I: Index<K>>(
     sought: &[K],
 ) -> StrikeList<K, I>
     requires { I.Index.opened below }
-    ensures { Kept I.Index.opened I.Index.means result }
+    ensures { result.below ≡ below }
 {
     let mut list = StrikeList::new(below);
-    strike_all(tally, &mut list, struck);
+    for row in struck {
+        tally.note(list.strike(*row).is_ok());
+    }
     agrees(tally, &list, seen, sought);
     list
 }

@@ -20,14 +20,12 @@ impl Ranked for Amount {
 // The amount decides where the accounts are the same: amounts have 64 bits.
 impl Ranked for Pair<Account, Amount> {
     fn rank(&self) -> i128 {
-        i128::from(self.first.number)
-            .wrapping_mul(0x1_0000_0000_0000_0000)
-            .wrapping_add(i128::from(self.second.cents))
+        i128::from(self.first.number) * 0x1_0000_0000_0000_0000 + i128::from(self.second.cents)
     }
 }
 
 impl Ranked for Reversed<Account> {
     fn rank(&self) -> i128 {
-        0i128.wrapping_sub(i128::from(self.key.number))
+        -i128::from(self.key.number)
     }
 }

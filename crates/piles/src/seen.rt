@@ -1,49 +1,32 @@
 // The reader of every row: which rows are in sight, and how many of them a key has before it.
 use crate::ranked::Ranked;
-use crate::tally::Tally;
 use indexes::{Decline, Index, Side};
 use keys::Key;
 use std::alloc::{AllocError, Global};
+use trials::Tally;
 
 // The numbers of all rows of a column.
 pub fn ranks_of<K: Ranked>(heap: Global, column: &[K]) -> Result<Vec<i128>, AllocError> {
-    let mut ranks = Vec::new(heap);
-    for key in column {
-        ranks.push(key.rank())?;
-    }
-    Ok(ranks)
+    column.iter().map(|key| key.rank()).collect(heap)
 }
 
 // The rows that are left without those struck, whose numbers are places in `rows`.
 pub fn in_sight(heap: Global, rows: &[i128], struck: &[u32]) -> Result<Vec<i128>, AllocError> {
-    let mut seen = Vec::new(heap);
-    for (place, rank) in rows.iter().enumerate() {
-        let mut hidden = false;
-        for row in struck {
-            if *row as usize == place {
-                hidden = true;
-            }
-        }
-        if !hidden {
-            seen.push(*rank)?;
-        }
-    }
-    Ok(seen)
+    rows.iter()
+        .enumerate()
+        .filter(|(place, _)| struck.iter().all(|row| *row as usize != *place))
+        .map(|(_, rank)| *rank)
+        .collect(heap)
 }
 
 // How many rows come before the key; or, after it, how many the key does not come before.
 fn place_of(rows: &[i128], sought: i128, side: Side) -> usize {
-    let mut count = 0usize;
-    for row in rows {
-        let passed = match side {
-            Side::At => *row < sought,
-            Side::After => *row <= sought,
-        };
-        if passed {
-            count = count.saturating_add(1);
-        }
-    }
-    count
+    rows.iter()
+        .filter(|row| match side {
+            Side::At => **row < sought,
+            Side::After => **row <= sought,
+        })
+        .count()
 }
 
 // Does each place of an index have the row that is in sight there, and is each place past its end declined?
@@ -51,19 +34,16 @@ fn rows_agree<K: Key + Ranked, I: Index<K>>(index: &I, seen: &[i128], spare: &K)
     requires { I.Index.opened index.now }
 {
     let mut held = *spare;
-    for (place, rank) in seen.iter().enumerate() {
-        if index.row(place, &mut held).is_err() || held.rank() != *rank {
-            return false;
-        }
-    }
+    let shown = seen.iter().enumerate().all(
+        |(place, rank)|
+            requires { I.Index.opened index.now }
+        { index.row(place, &mut held).is_ok() && held.rank() == *rank },
+    );
     let before = held.rank();
-    for past in [seen.len(), usize::MAX] {
-        let declined = matches!(index.row(past, &mut held), Err(Decline::NoSuchRow));
-        if !declined || held.rank() != before {
-            return false;
-        }
-    }
-    true
+    let mut declined = |past: usize|
+        requires { I.Index.opened index.now }
+    { index.row(past, &mut held) == Err(Decline::NoSuchRow) && held.rank() == before };
+    shown && declined(seen.len()) && declined(usize::MAX)
 }
 
 // Holds all answers of an index against the rows that are in sight.

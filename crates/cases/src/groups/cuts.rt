@@ -1,31 +1,30 @@
 // Good sheets cut at every length: malformed, but where the cut leaves whole fields and the column among them.
 use crate::question::{Ask, Kind, PlainKey, Question, after, at, front};
-use crate::table::Tally;
+use crate::trial::Trial;
 use crate::written::sheet_of;
-use std::alloc::{AllocError, Global};
+use std::alloc::AllocError;
 
 // Cuts a sheet between its calls and within each.
-fn every_cut(heap: Global, tally: &mut Tally, whole: &Question<'_>) -> Result<(), AllocError> {
-    let sheet = sheet_of(heap, whole)?;
+fn every_cut(trial: &mut Trial, whole: &Question<'_>) -> Result<(), AllocError> {
+    let sheet = sheet_of(trial.heap, whole)?;
     let mut from = 0usize;
     for count in 0..=whole.asks.len() {
         let short = Question {
-            kind: whole.kind,
-            rows: whole.rows,
             asks: front(whole.asks, count),
+            ..*whole
         };
-        let end = sheet_of(heap, &short)?.len();
+        let end = sheet_of(trial.heap, &short)?.len();
         for cut in from..end {
-            tally.sheet(heap, front(sheet.as_slice(), cut), "X 12\n");
+            trial.sheet(front(sheet.as_slice(), cut), "X 12\n");
         }
-        tally.question(heap, &short);
+        trial.question(&short);
         from = end.saturating_add(1);
     }
     Ok(())
 }
 
 // A sheet with calls of every kind.
-fn cut(heap: Global, tally: &mut Tally, kind: Kind, rows: &[PlainKey], key: PlainKey) {
+fn cut(trial: &mut Trial, kind: Kind, rows: &[PlainKey], key: PlainKey) {
     let asks = [
         Ask::Strike(1),
         at(key),
@@ -39,27 +38,19 @@ fn cut(heap: Global, tally: &mut Tally, kind: Kind, rows: &[PlainKey], key: Plai
         rows,
         asks: &asks,
     };
-    if every_cut(heap, tally, &whole).is_err() {
-        tally.note(false);
+    if every_cut(trial, &whole).is_err() {
+        trial.tally.note(false);
     }
 }
 
-pub fn tried(heap: Global) -> Tally {
-    let mut tally = Tally::new();
+pub fn tried(trial: &mut Trial) {
     let [small, large] = [PlainKey::Account(10), PlainKey::Account(20)];
-    cut(
-        heap,
-        &mut tally,
-        Kind::Accounts,
-        &[small, large, large],
-        large,
-    );
-    cut(heap, &mut tally, Kind::Accounts, &[large, small], large);
-    cut(heap, &mut tally, Kind::Accounts, &[], small);
+    cut(trial, Kind::Accounts, &[small, large, large], large);
+    cut(trial, Kind::Accounts, &[large, small], large);
+    cut(trial, Kind::Accounts, &[], small);
     let [apple, pear] = [
         PlainKey::Label(*b"apple           "),
         PlainKey::Label(*b"PEAR            "),
     ];
-    cut(heap, &mut tally, Kind::Labels, &[apple, pear, pear], pear);
-    tally
+    cut(trial, Kind::Labels, &[apple, pear, pear], pear);
 }

@@ -1,7 +1,8 @@
 // Two sheets with each of their bytes changed to every other, and values of every length below 80.
-use crate::question::front;
-use crate::table::Tally;
-use std::alloc::Global;
+ghost use Rattle.std.specs.Prelude.{◌<◌, ◌≤◌};
+
+use crate::question::{Kind, front};
+use crate::trial::Trial;
 
 // A bare column without rows, and a place or a strike.
 const PLACE: [u8; 16] = *b"D\x00\x02P\x00K\x00\x00Q\x00\x05a\x00\x00\x00\x00";
@@ -29,18 +30,29 @@ fn strike_text(place: usize, byte: u8) -> &'static str {
     }
 }
 
-// Both sheets with this byte at this place.
-fn changed(heap: Global, tally: &mut Tally, place: usize, byte: u8) {
-    let mut sheet = PLACE;
+// A sheet with this byte at this place; past its end it is as it was.
+fn changed<const LEN: usize>(
+    trial: &mut Trial,
+    mut sheet: [u8; LEN],
+    place: usize,
+    byte: u8,
+    expected: &str,
+) {
     if let Some(there) = sheet.get_mut(place) {
         *there = byte;
     }
-    tally.sheet(heap, &sheet, place_text(place, byte));
-    let mut sheet = STRIKE;
-    if let Some(there) = sheet.get_mut(place) {
-        *there = byte;
+    trial.sheet(&sheet, expected);
+}
+
+// The bytes of a key.
+fn width(kind: Kind) -> u8
+    ensures some { 0 < result }
+    ensures few { result ≤ 16 }
+{
+    match kind {
+        Kind::Accounts => 4,
+        Kind::Labels => 16,
     }
-    tally.sheet(heap, &sheet, strike_text(place, byte));
 }
 
 // What is printed: the text, where the sheet is one.
@@ -48,55 +60,37 @@ fn text_if(is_sheet: bool, text: &str) -> &str {
     if is_sheet { text } else { "X 12\n" }
 }
 
-// A column with this tag and so many bytes, all zero.
-fn column(heap: Global, tally: &mut Tally, tag: u8, len: u8, width: u8) {
-    let mut sheet = [0u8; 96];
-    sheet[0] = b'D';
-    sheet[2] = 2;
-    sheet[3] = b'P';
-    sheet[5] = tag;
-    sheet[7] = len;
-    let is_sheet = len.checked_rem(width) == Some(0);
-    tally.sheet(
-        heap,
-        front(&sheet, 8 + usize::from(len)),
-        text_if(is_sheet, ""),
-    );
+// A column with so many bytes, all zero.
+fn column(trial: &mut Trial, kind: Kind, len: u8) {
+    let mut sheet = [0; 96];
+    sheet[..8].copy_from_slice(&[b'D', 0, 2, b'P', 0, kind.tag(), 0, len]);
+    let expected = text_if(len % width(kind) == 0, "");
+    trial.sheet(front(&sheet, 8 + usize::from(len)), expected);
 }
 
-// A place behind an empty column with this tag, with a value of so many bytes.
-fn place(heap: Global, tally: &mut Tally, tag: u8, len: u8, width: u8) {
-    let mut sheet = [0u8; 96];
-    sheet[0] = b'D';
-    sheet[2] = 2;
-    sheet[3] = b'P';
-    sheet[5] = tag;
-    sheet[8] = b'Q';
-    sheet[10] = len;
-    sheet[11] = b'n';
-    let is_sheet = len.checked_sub(width) == Some(1);
-    tally.sheet(
-        heap,
-        front(&sheet, 11 + usize::from(len)),
-        text_if(is_sheet, "Q 0 0 0\n"),
-    );
+// A place behind an empty column, with a value of so many bytes.
+fn place(trial: &mut Trial, kind: Kind, len: u8) {
+    let mut sheet = [0; 96];
+    let start = [b'D', 0, 2, b'P', 0, kind.tag(), 0, 0, b'Q', 0, len, b'n'];
+    sheet[..12].copy_from_slice(&start);
+    let expected = text_if(len == 1 + width(kind), "Q 0 0 0\n");
+    trial.sheet(front(&sheet, 11 + usize::from(len)), expected);
 }
 
-pub fn tried(heap: Global) -> Tally {
-    let mut tally = Tally::new();
+pub fn tried(trial: &mut Trial) {
     for at in 0..16 {
         for byte in 0..=255u8 {
             // a full or a level directory is a sheet, but not answered yet
             if at != 3 || (byte != b'F' && byte != b'L') {
-                changed(heap, &mut tally, at, byte);
+                changed(trial, PLACE, at, byte, place_text(at, byte));
+                changed(trial, STRIKE, at, byte, strike_text(at, byte));
             }
         }
     }
     for len in 0..80u8 {
-        column(heap, &mut tally, b'K', len, 4);
-        column(heap, &mut tally, b'T', len, 16);
-        place(heap, &mut tally, b'K', len, 4);
-        place(heap, &mut tally, b'T', len, 16);
+        for kind in [Kind::Accounts, Kind::Labels] {
+            column(trial, kind, len);
+            place(trial, kind, len);
+        }
     }
-    tally
 }

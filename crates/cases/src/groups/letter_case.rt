@@ -1,8 +1,9 @@
 // Labels that differ only in the case of their letters, and bytes just outside the letters.
 use crate::question::{Ask, Kind, PlainKey, Question, after, at};
 use crate::sorted::sorted;
-use crate::table::Tally;
-use std::alloc::{AllocError, Global};
+use crate::trial::Trial;
+use std::alloc::AllocError;
+use std::array;
 
 const FRUIT: [PlainKey; 4] = [
     PlainKey::Label(*b"apple           "),
@@ -22,18 +23,18 @@ const OUTSIDE: [PlainKey; 6] = [
 ];
 
 // Both sides of a key over a column, held against a text worked by hand.
-fn sides(heap: Global, tally: &mut Tally, rows: &[PlainKey], key: &[u8; 16], expected: &str) {
+fn sides(trial: &mut Trial, rows: &[PlainKey], key: &[u8; 16], expected: &str) {
     let key = PlainKey::Label(*key);
     let question = Question {
         kind: Kind::Labels,
         rows,
         asks: &[at(key), after(key)],
     };
-    tally.by_hand(heap, &question, expected);
+    trial.by_hand(&question, expected);
 }
 
 // Account numbers whose bytes are letters are by size all the same.
-fn lettered_accounts(heap: Global, tally: &mut Tally) {
+fn lettered_accounts(trial: &mut Trial) {
     let small = PlainKey::Account(0x4141_4141);
     let large = PlainKey::Account(0x6161_6161);
     let question = Question {
@@ -41,96 +42,55 @@ fn lettered_accounts(heap: Global, tally: &mut Tally) {
         rows: &[small, large],
         asks: &[at(small), after(small), at(large), after(large)],
     };
-    tally.by_hand(heap, &question, "Q 0 0 2\nQ 0 1 2\nQ 0 1 2\nQ 0 2 1\n");
+    trial.by_hand(&question, "Q 0 0 2\nQ 0 1 2\nQ 0 1 2\nQ 0 2 1\n");
+}
+
+// A label of spaces, but for the byte at one place.
+fn with_byte(place: usize, byte: u8) -> PlainKey {
+    PlainKey::Label(array::from_fn(|at| if at == place { byte } else { b' ' }))
 }
 
 // Every byte at one place of a label, sought among all the others, held against the reader.
-fn every_byte_at(heap: Global, tally: &mut Tally, place: usize) -> Result<(), AllocError> {
-    let mut keys = Vec::new(heap);
-    let mut asks: Vec<Ask> = Vec::new(heap);
-    for byte in 0..=255u8 {
-        let mut bytes = [b' '; 16];
-        if let Some(there) = bytes.get_mut(place) {
-            *there = byte;
-        }
-        keys.push(PlainKey::Label(bytes))?;
-        asks.push(at(PlainKey::Label(bytes)))?;
-        asks.push(after(PlainKey::Label(bytes)))?;
-    }
-    let rows = sorted(heap, keys.as_slice())?;
-    let question = Question {
+fn every_byte_at(trial: &mut Trial, place: usize) -> Result<(), AllocError> {
+    let keys: Vec<PlainKey> = (0..=255u8)
+        .map(|byte| with_byte(place, byte))
+        .collect(trial.heap)?;
+    let asks: Vec<Ask> = keys
+        .iter()
+        .flat_map(|key| [at(*key), after(*key)])
+        .collect(trial.heap)?;
+    let rows = sorted(trial.heap, keys.as_slice())?;
+    trial.question(&Question {
         kind: Kind::Labels,
         rows: rows.as_slice(),
         asks: asks.as_slice(),
-    };
-    tally.question(heap, &question);
+    });
     Ok(())
 }
 
-fn worked_by_hand(heap: Global, tally: &mut Tally) {
-    let apples = "Q 0 0 3\nQ 0 2 2\n";
-    sides(heap, tally, &FRUIT, b"apple           ", apples);
-    sides(heap, tally, &FRUIT, b"APPLE           ", apples);
-    sides(heap, tally, &FRUIT, b"aPpLe           ", apples);
-    sides(
-        heap,
-        tally,
-        &FRUIT,
-        b"BANANA          ",
-        "Q 0 2 2\nQ 0 4 2\n",
-    );
-    sides(
-        heap,
-        tally,
-        &OUTSIDE,
-        b"@               ",
-        "Q 0 0 3\nQ 0 1 3\n",
-    );
-    sides(
-        heap,
-        tally,
-        &OUTSIDE,
-        b"A               ",
-        "Q 0 1 3\nQ 0 2 3\n",
-    );
-    sides(
-        heap,
-        tally,
-        &OUTSIDE,
-        b"z               ",
-        "Q 0 2 3\nQ 0 3 3\n",
-    );
-    sides(
-        heap,
-        tally,
-        &OUTSIDE,
-        b"[               ",
-        "Q 0 3 3\nQ 0 4 3\n",
-    );
-    sides(
-        heap,
-        tally,
-        &OUTSIDE,
-        b"`               ",
-        "Q 0 4 3\nQ 0 5 3\n",
-    );
-    sides(
-        heap,
-        tally,
-        &OUTSIDE,
-        b"{               ",
-        "Q 0 5 3\nQ 0 6 2\n",
-    );
+fn worked_by_hand(trial: &mut Trial) {
+    for apple in [
+        b"apple           ",
+        b"APPLE           ",
+        b"aPpLe           ",
+    ] {
+        sides(trial, &FRUIT, apple, "Q 0 0 3\nQ 0 2 2\n");
+    }
+    sides(trial, &FRUIT, b"BANANA          ", "Q 0 2 2\nQ 0 4 2\n");
+    sides(trial, &OUTSIDE, b"@               ", "Q 0 0 3\nQ 0 1 3\n");
+    sides(trial, &OUTSIDE, b"A               ", "Q 0 1 3\nQ 0 2 3\n");
+    sides(trial, &OUTSIDE, b"z               ", "Q 0 2 3\nQ 0 3 3\n");
+    sides(trial, &OUTSIDE, b"[               ", "Q 0 3 3\nQ 0 4 3\n");
+    sides(trial, &OUTSIDE, b"`               ", "Q 0 4 3\nQ 0 5 3\n");
+    sides(trial, &OUTSIDE, b"{               ", "Q 0 5 3\nQ 0 6 2\n");
 }
 
-pub fn tried(heap: Global) -> Tally {
-    let mut tally = Tally::new();
-    worked_by_hand(heap, &mut tally);
-    lettered_accounts(heap, &mut tally);
+pub fn tried(trial: &mut Trial) {
+    worked_by_hand(trial);
+    lettered_accounts(trial);
     for place in 0..16 {
-        if every_byte_at(heap, &mut tally, place).is_err() {
-            tally.note(false);
+        if every_byte_at(trial, place).is_err() {
+            trial.tally.note(false);
         }
     }
-    tally
 }

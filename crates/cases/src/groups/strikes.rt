@@ -1,7 +1,7 @@
 // Strikes and restores, accepted and declined, and the places over the rows that are left in sight.
 use crate::question::{Ask, Kind, PlainKey, Question, after, at};
-use crate::table::Tally;
-use std::alloc::Global;
+use crate::trial::Trial;
+use std::array;
 
 const NINE: [PlainKey; 9] = [
     PlainKey::Account(10),
@@ -24,23 +24,17 @@ const FOUR: [PlainKey; 4] = [
 
 const LAST: PlainKey = PlainKey::Account(u32::MAX);
 
-fn by_hand<'a>(
-    heap: Global,
-    tally: &mut Tally,
-    rows: &'a [PlainKey],
-    asks: &'a [Ask],
-    expected: &str,
-) {
+fn by_hand(trial: &mut Trial, rows: &[PlainKey], asks: &[Ask], expected: &str) {
     let question = Question {
         kind: Kind::Accounts,
         rows,
         asks,
     };
-    tally.by_hand(heap, &question, expected);
+    trial.by_hand(&question, expected);
 }
 
 // Twice the same, and past the end.
-fn declined(heap: Global, tally: &mut Tally) {
+fn declined(trial: &mut Trial) {
     let places = [
         Ask::Strike(1),
         Ask::Strike(1),
@@ -48,28 +42,22 @@ fn declined(heap: Global, tally: &mut Tally) {
         after(PlainKey::Account(50)),
         Ask::Restore(4),
     ];
-    by_hand(
-        heap,
-        tally,
-        &NINE,
-        &places,
-        "S 0\nS 7\nQ 0 2 3\nQ 0 7 3\nR 7\n",
-    );
+    by_hand(trial, &NINE, &places, "S 0\nS 7\nQ 0 2 3\nQ 0 7 3\nR 7\n");
     let twice = [Ask::Strike(8), Ask::Restore(8), Ask::Restore(8)];
-    by_hand(heap, tally, &NINE, &twice, "S 0\nR 0\nR 7\n");
+    by_hand(trial, &NINE, &twice, "S 0\nR 0\nR 7\n");
     let past = [
         Ask::Strike(9),
         Ask::Restore(9),
         Ask::Strike(u32::MAX),
         Ask::Restore(u32::MAX),
     ];
-    by_hand(heap, tally, &NINE, &past, "S 6\nR 6\nS 6\nR 6\n");
+    by_hand(trial, &NINE, &past, "S 6\nR 6\nS 6\nR 6\n");
     let none = [Ask::Strike(0), Ask::Restore(0), at(LAST), after(LAST)];
-    by_hand(heap, tally, &[], &none, "S 6\nR 6\nQ 0 0 0\nQ 0 0 0\n");
+    by_hand(trial, &[], &none, "S 6\nR 6\nQ 0 0 0\nQ 0 0 0\n");
 }
 
 // Row numbers are those of the column, however many rows are struck.
-fn not_renumbered(heap: Global, tally: &mut Tally) {
+fn not_renumbered(trial: &mut Trial) {
     let two = [
         Ask::Strike(1),
         Ask::Strike(2),
@@ -79,8 +67,7 @@ fn not_renumbered(heap: Global, tally: &mut Tally) {
         at(PlainKey::Account(30)),
     ];
     by_hand(
-        heap,
-        tally,
+        trial,
         &FOUR,
         &two,
         "S 0\nS 0\nQ 0 1 2\nQ 0 2 2\nR 0\nQ 0 2 2\n",
@@ -92,16 +79,12 @@ fn not_renumbered(heap: Global, tally: &mut Tally) {
         Ask::Strike(1),
         after(LAST),
     ];
-    by_hand(heap, tally, &FOUR, &all, "S 0\nS 0\nS 0\nS 0\nQ 0 0 2\n");
+    by_hand(trial, &FOUR, &all, "S 0\nS 0\nS 0\nS 0\nQ 0 0 2\n");
 }
 
 // The account numbers from 1 to 70.
 fn seventy() -> [PlainKey; 70] {
-    let mut rows = [LAST; 70];
-    for (number, row) in (1..71u32).zip(rows.iter_mut()) {
-        *row = PlainKey::Account(number);
-    }
-    rows
+    array::from_fn(|row| PlainKey::Account(row as u32 + 1))
 }
 
 // 64 strikes, and calls on the list that is full then.
@@ -118,25 +101,24 @@ fn filling() -> [Ask; 74] {
         Ask::Restore(70),
         after(PlainKey::Account(70)),
     ];
-    let mut asks = [Ask::Strike(0); 74];
-    for (row, ask) in (0..74u32).zip(asks.iter_mut()) {
-        *ask = match then.get((row as usize).saturating_sub(64)) {
-            Some(next) if row >= 64 => *next,
-            _ => Ask::Strike(row),
-        };
-    }
-    asks
+    array::from_fn(|call| {
+        if call < 64 {
+            Ask::Strike(call as u32)
+        } else {
+            then[call - 64]
+        }
+    })
 }
 
 // Each of 64 strikes is accepted; what follows is declined or accepted as on a full list.
-fn full(heap: Global, tally: &mut Tally) {
+fn full(trial: &mut Trial) {
     let expected =
         "S 0\nS 0\nS 0\nS 0\nS 0\nS 0\nS 0\nS 0\nS 0\nS 0\nS 0\nS 0\nS 0\nS 0\nS 0\nS 0\n\
                     S 0\nS 0\nS 0\nS 0\nS 0\nS 0\nS 0\nS 0\nS 0\nS 0\nS 0\nS 0\nS 0\nS 0\nS 0\nS 0\n\
                     S 0\nS 0\nS 0\nS 0\nS 0\nS 0\nS 0\nS 0\nS 0\nS 0\nS 0\nS 0\nS 0\nS 0\nS 0\nS 0\n\
                     S 0\nS 0\nS 0\nS 0\nS 0\nS 0\nS 0\nS 0\nS 0\nS 0\nS 0\nS 0\nS 0\nS 0\nS 0\nS 0\n\
                     S 8\nS 7\nS 6\nQ 0 1 6\nR 0\nS 0\nS 8\nR 7\nR 6\nQ 0 6 6\n";
-    by_hand(heap, tally, &seventy(), &filling(), expected);
+    by_hand(trial, &seventy(), &filling(), expected);
 }
 
 // Call `number` of those that strike 70 rows in steps of `stride` and restore them, with a place after each.
@@ -152,28 +134,20 @@ fn step(number: u32, stride: u32) -> Ask {
 }
 
 // The calls above, held against the reader.
-fn in_steps(heap: Global, tally: &mut Tally, stride: u32) {
-    let mut asks = [at(LAST); 280];
-    for (number, ask) in (0..280u32).zip(asks.iter_mut()) {
-        *ask = step(number, stride);
-    }
-    tally.question(
-        heap,
-        &Question {
-            kind: Kind::Accounts,
-            rows: &seventy(),
-            asks: &asks,
-        },
-    );
+fn in_steps(trial: &mut Trial, stride: u32) {
+    let asks: [Ask; 280] = array::from_fn(|call| step(call as u32, stride));
+    trial.question(&Question {
+        kind: Kind::Accounts,
+        rows: &seventy(),
+        asks: &asks,
+    });
 }
 
-pub fn tried(heap: Global) -> Tally {
-    let mut tally = Tally::new();
-    declined(heap, &mut tally);
-    not_renumbered(heap, &mut tally);
-    full(heap, &mut tally);
+pub fn tried(trial: &mut Trial) {
+    declined(trial);
+    not_renumbered(trial);
+    full(trial);
     for stride in 1..71 {
-        in_steps(heap, &mut tally, stride);
+        in_steps(trial, stride);
     }
-    tally
 }

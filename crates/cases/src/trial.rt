@@ -1,0 +1,46 @@
+// A trial of the library: the memory that it takes, and what was found.
+use crate::question::Question;
+use crate::reader::text_of;
+use crate::written::sheet_of;
+use answers::answer;
+use std::alloc::Global;
+use trials::Tally;
+
+// Want of memory counts as a difference.
+#[derive(Clone, Copy)]
+pub struct Trial {
+    pub heap: Global,
+    pub tally: Tally,
+}
+
+impl Trial {
+    pub fn new(heap: Global) -> Trial {
+        Trial {
+            heap,
+            tally: Tally::new(),
+        }
+    }
+
+    // One sheet by its bytes, held against the text that is expected.
+    pub fn sheet(&mut self, bytes: &[u8], expected: &str) {
+        let found = answer(self.heap, bytes);
+        self.tally
+            .note(found.is_ok_and(|text| text.as_str() == expected));
+    }
+
+    // One question, held against the reader of every row.
+    pub fn question(&mut self, question: &Question<'_>) {
+        match text_of(self.heap, question) {
+            Ok(expected) => self.by_hand(question, expected.as_str()),
+            Err(_) => self.tally.note(false),
+        }
+    }
+
+    // One question, held against a text that was worked by hand.
+    pub fn by_hand(&mut self, question: &Question<'_>, expected: &str) {
+        match sheet_of(self.heap, question) {
+            Ok(sheet) => self.sheet(sheet.as_slice(), expected),
+            Err(_) => self.tally.note(false),
+        }
+    }
+}

@@ -1,6 +1,0 @@
--- The list stays one that answers.
-use Rattle.layers.specs.Views.{Kept}
-use Rattle.piles.proofs.pile.strike_all.Given as goal
-
-abbrev pub invariant-loop-row : goal.invariant-loop-row
-invariant-loop-row g l = Kept g.I.Index.opened g.I.Index.means l.list

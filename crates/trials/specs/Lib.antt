@@ -1,0 +1,2 @@
+pub mod Generator
+pub mod Table

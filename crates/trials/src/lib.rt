@@ -1,0 +1,19 @@
+// What programs that try a library share: counting what was tried, drawing numbers, reading every row plainly.
+//
+// `Tally` counts cases, and how many of them came out otherwise than expected; `Group` is its line in a table.
+// `Random` draws numbers that look random and are the same in every run. `halved` seeks a place in rows by halving,
+// over a closure that says which rows are passed.
+//
+// A reader must share no code with what it is held against: this crate stands on std alone.
+
+#![tactic(auto)]
+
+mod group;
+mod halving;
+mod random;
+mod tally;
+
+pub use group::{Group, Widths};
+pub use halving::{Sought, halved};
+pub use random::Random;
+pub use tally::Tally;
