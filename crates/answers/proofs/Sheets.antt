@@ -4,7 +4,8 @@ use Rattle.std.specs.Option.{option_map}
 use Rattle.keys.specs.Weights.{lighter}
 use Rattle.indexes.specs.declared.layout.Layout.{Layout}
 use Rattle.indexes.specs.Meaning.{Meaning}
-use Rattle.indexes.specs.Opening.{bare, opening}
+use Rattle.directories.specs.Frozen.{bare}
+use Rattle.directories.specs.Opening.{bare_opening}
 use Rattle.layers.specs.Reference.{none_struck}
 use Rattle.sheets.specs.declared.field.Kind.TheVariants.{Accounts, Labels}
 use Rattle.sheets.specs.declared.field.Part.{Part}
@@ -38,12 +39,12 @@ text_by bs r s layout e says is = ap text_of e ∙ ap (λ l. text_under l s) (ap
 
 -- the text over a column that opened, once it is clear what was read and what the list above it means
 pub opened_lines : {K : Type 0} (before : K → K → Bool) (w : ℕ) (spelled : List ℕ → K) (letter : ℕ) (column : List ℕ) (calls : List Piece) (rows : List K) (asked : List (Request K)) (m : Meaning K) (out : ℕ → Bool) (u : Unit {0})
-    → rows ≡ keys_of w spelled column → Ok u ≡ opening before rows → m ≡ bare before rows → out ≡ none_struck → asked ≡ requests_of w spelled calls
+    → rows ≡ keys_of w spelled column → Ok u ≡ bare_opening before rows → m ≡ bare before rows → out ≡ none_struck → asked ≡ requests_of w spelled calls
     → lines before m out asked ≡ column_text before w spelled letter column calls
 opened_lines before w spelled letter column calls rows asked m out u read opened means none says =
     (λ j. lines before (means j) (none j) (says j))
     ∙ ap (λ o. opened_text letter o (lines before (bare before rows) none_struck (requests_of w spelled calls))) opened
-    ∙ ap (λ r. opened_text letter (opening before r) (lines before (bare before r) none_struck (requests_of w spelled calls))) read
+    ∙ ap (λ r. opened_text letter (bare_opening before r) (lines before (bare before r) none_struck (requests_of w spelled calls))) read
 
 -- the text of a sheet by its column
 abbrev text_by_column : Said → Piece → List ℕ

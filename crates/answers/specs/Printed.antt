@@ -7,7 +7,8 @@ use Rattle.indexes.specs.declared.decline.Decline.TheVariants.{MalformedSheet}
 use Rattle.indexes.specs.declared.layout.Layout.{Layout}
 use Rattle.indexes.specs.declared.layout.Layout.TheVariants as layout
 use Rattle.indexes.specs.Declines.{number_of}
-use Rattle.indexes.specs.Opening.{bare, opening}
+use Rattle.directories.specs.Frozen.{bare}
+use Rattle.directories.specs.Opening.{bare_opening}
 use Rattle.layers.specs.Reference.{none_struck}
 use Rattle.sheets.specs.declared.field.Kind.TheVariants.{Accounts}
 use Rattle.sheets.specs.Fields.{Piece}
@@ -30,7 +31,7 @@ opened_text letter (Err why) text = decline_line letter why
 abbrev pub column_text : {K : Type 0} → (K → K → Bool) → ℕ → (List ℕ → K) → ℕ → List ℕ → List Piece → List ℕ
 column_text before w spelled letter column calls =
     let rows = keys_of w spelled column in
-    opened_text letter (opening before rows) (lines before (bare before rows) none_struck (requests_of w spelled calls))
+    opened_text letter (bare_opening before rows) (lines before (bare before rows) none_struck (requests_of w spelled calls))
 
 -- account numbers are ordered by size
 abbrev pub smaller : Account → Account → Bool

@@ -6,7 +6,7 @@
 //
 // It promises the text that specs/Printed.antt defines over the sheet's bytes, byte for byte, or that the sheet asks for
 // a directory; so a program that calls it has only to read bytes and write bytes. Want of memory alone is left open.
-// It stands on reading (crate `sheets`), frozen columns (`indexes`), strike lists (`layers`) and keys (`keys`).
+// It stands on reading (crate `sheets`), frozen columns (`directories`, an `Index` of `indexes`), strike lists (`layers`) and keys (`keys`).
 
 #![tactic(auto)]
 

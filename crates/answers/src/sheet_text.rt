@@ -6,7 +6,8 @@ ghost use Rattle.answers.specs.Printed.{Answers, bare_text, column_text, decline
 use crate::line::write_line;
 use crate::refusal::{OutOfMemory, Refusal};
 use crate::run::run;
-use indexes::{Decline, FrozenIndex, Layout};
+use directories::FrozenIndex;
+use indexes::{Decline, Layout};
 use keys::{Account, Label};
 use layers::StrikeList;
 use sheets::{Column, Part, Sheet, SheetKey};
@@ -35,7 +36,7 @@ fn over<K: SheetKey>(
     let rows = column.keys::<K>(heap)?;
     let requests = sheet.requests::<K>(heap)?;
     let mut index = FrozenIndex::empty();
-    if let Err(why) = index.open(rows.as_slice()) {
+    if let Err(why) = index.open(rows.as_slice(), Layout::Bare, &[]) {
         return declined(heap, letter, why);
     }
     run(heap, &mut StrikeList::new(index), requests.as_slice())

@@ -36,6 +36,12 @@ abbrev pub opening : {K : Type 0} → (K → K → Bool) → Layout → List K �
 opening before layout column slots =
     first_fit (reasons before layout column (length slots) ++ (not (agree before slots (slots_under layout column)), SlotDiffers) ∷ [])
 
+-- what opening a bare column answers: there is no node size and no slot to decline
+abbrev pub bare_opening : {K : Type 0} → (K → K → Bool) → List K → Result Unit Decline
+bare_opening before column =
+    cond (nat_lt 1048576 (length column)) (Err TooManyRows)
+    (cond (in_order before column) (Ok tt) (Err OutOfOrder))
+
 -- what was there, where a call was declined, and otherwise what it puts there
 abbrev pub kept_or : {X : Type 0} → Result Unit Decline → X → X → X
 kept_or (Ok x) had new = new

@@ -1,4 +1,3 @@
 pub mod Declines
 pub mod Meaning
-pub mod Opening
 pub mod Seeking

@@ -1,7 +1,8 @@
 // Columns that are too long or out of order, and what the index holds after each opening.
 use crate::seen::{agrees, ranks_of};
 use crate::tally::Tally;
-use indexes::{Decline, FrozenIndex};
+use directories::FrozenIndex;
+use indexes::{Decline, Layout};
 use keys::Account;
 use std::alloc::{AllocError, Global};
 
@@ -43,16 +44,16 @@ fn opened<'a>(columns: &Columns<'a>, short: &[i128], other: &[i128], most: &[i12
     let sought = columns.falling;
     let mut index: FrozenIndex<'a, Account> = FrozenIndex::empty();
     agrees(&mut tally, &index, &[], sought);
-    tally.note(is_declined(index.open(columns.falling), 3));
+    tally.note(is_declined(index.open(columns.falling, Layout::Bare, &[]), 3));
     agrees(&mut tally, &index, &[], sought);
-    tally.note(index.open(columns.short).is_ok());
-    tally.note(is_declined(index.open(columns.long), 2));
-    tally.note(is_declined(index.open(columns.long_falling), 2));
-    tally.note(is_declined(index.open(columns.falling), 3));
+    tally.note(index.open(columns.short, Layout::Bare, &[]).is_ok());
+    tally.note(is_declined(index.open(columns.long, Layout::Bare, &[]), 2));
+    tally.note(is_declined(index.open(columns.long_falling, Layout::Bare, &[]), 2));
+    tally.note(is_declined(index.open(columns.falling, Layout::Bare, &[]), 3));
     agrees(&mut tally, &index, short, sought);
-    tally.note(index.open(columns.other).is_ok());
+    tally.note(index.open(columns.other, Layout::Bare, &[]).is_ok());
     agrees(&mut tally, &index, other, sought);
-    tally.note(index.open(columns.most).is_ok());
+    tally.note(index.open(columns.most, Layout::Bare, &[]).is_ok());
     agrees(&mut tally, &index, most, sought);
     tally
 }

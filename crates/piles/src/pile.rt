@@ -4,7 +4,8 @@ ghost use Rattle.layers.specs.Views.{Kept};
 use crate::ranked::Ranked;
 use crate::seen::{agrees, in_sight, ranks_of};
 use crate::tally::Tally;
-use indexes::{FrozenIndex, Index};
+use directories::FrozenIndex;
+use indexes::{Index, Layout};
 use keys::Key;
 use layers::StrikeList;
 use std::alloc::{AllocError, Global};
@@ -52,7 +53,7 @@ pub fn piled<K: Key + Ranked>(
     sought.extend_from_slice(between)?;
     let sought = sought.as_slice();
     let mut frozen = FrozenIndex::empty();
-    tally.note(frozen.open(column).is_ok());
+    tally.note(frozen.open(column, Layout::Bare, &[]).is_ok());
     agrees(&mut tally, &frozen, all.as_slice(), sought);
     let lent = above(&mut tally, &frozen, first, some.as_slice(), sought);
     drop(above(&mut tally, &lent, second, few.as_slice(), sought));
