@@ -30,8 +30,21 @@ mod worked;
 
 use findings::Findings;
 use keys::{Account, Amount, Label, Pair};
+use kind::Made;
 use report::Report;
 use source::Source;
+
+// Tries a kind of key, and prints what was found.
+fn tried<K: Made>(
+    report: &mut Report<'_>,
+    source: &mut Source,
+    name: &str,
+) -> anyhow::Result<Findings> {
+    report.heading(name)?;
+    let found = Findings::of::<K>(source)?;
+    found.print(report)?;
+    Ok(found)
+}
 
 fn run(rt: &HostRuntime) -> anyhow::Result<()> {
     let heap = rt.alloc();
@@ -45,13 +58,13 @@ fn run(rt: &HostRuntime) -> anyhow::Result<()> {
     )?;
     report.group("too many rows", longest::tried(heap)?)?;
 
-    report.heading("accounts")?;
-    Findings::of::<Account>(&mut source)?.print(&mut report)?;
-    report.heading("pairs of an account and an amount")?;
-    Findings::of::<Pair<Account, Amount>>(&mut source)?.print(&mut report)?;
-    report.heading("labels")?;
-    let labels = Findings::of::<Label>(&mut source)?;
-    labels.print(&mut report)?;
+    tried::<Account>(&mut report, &mut source, "accounts")?;
+    tried::<Pair<Account, Amount>>(
+        &mut report,
+        &mut source,
+        "pairs of an account and an amount",
+    )?;
+    let labels = tried::<Label>(&mut report, &mut source, "labels")?;
     report.heading("labels, with slots in other letters than the rows")?;
     labels.print_respelled(&mut report)?;
 

@@ -78,6 +78,7 @@ impl<'a> Reader<'a> {
         let mut node = 0usize;
         let mut comparisons = 0u32;
         for _ in 0..numbers.levels {
+            // a leaf may lie above the last level
             if node < numbers.internal {
                 let found = halved(tree.looked_at(node), |row| {
                     self.is_row_passed(*row, number, side)
