@@ -1,3 +1,4 @@
 pub mod Letters
 pub mod Printed
+pub mod Reasons
 pub mod Text

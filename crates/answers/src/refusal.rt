@@ -1,10 +1,13 @@
 // Why a sheet gets no text.
-ghost use Rattle.std.specs.Prelude.{◌≡◌};
+ghost use Rattle.std.specs.Prelude.{◌≡◌, Some};
 ghost use Rattle.answers.specs.declared.refusal.Refusal.TheVariants.{NoMemory};
+ghost use Rattle.answers.specs.Reasons.{reason};
 
 use std::alloc::AllocError;
+use std::error::Error;
+use std::fmt;
 
-#[derive(Clone, Copy, PartialEq, Eq, Debug)]
+#[derive(Clone, Copy, PartialEq, Eq, Debug, Drop)]
 pub enum Refusal {
     // there was not enough memory
     NoMemory,
@@ -19,3 +22,16 @@ impl From<AllocError> for Refusal {
         Refusal::NoMemory
     }
 }
+
+impl fmt::Display for Refusal {
+    ghost output = { λ r. Some (reason r) };
+
+    fn fmt<W: fmt::Write>(&self, f: &mut fmt::Formatter<W>) -> fmt::Result {
+        f.write_str(match self {
+            Refusal::NoMemory => "not enough memory",
+            Refusal::NoDirectory => "full and level directories are not answered yet",
+        })
+    }
+}
+
+impl Error for Refusal {}

@@ -3,8 +3,7 @@
 
 #![tactic(auto)]
 
-use answers::{Refusal, answer};
-use anyhow::anyhow;
+use answers::answer;
 use sheets::MOST;
 use std::io::{Read, Write};
 
@@ -12,10 +11,7 @@ fn main(rt: HostRuntime) -> anyhow::Result<()> {
     let mut bytes = Vec::new(rt.alloc());
     // one byte more than a sheet may have shows that it is too long
     rt.stdin().take(MOST as u64 + 1).read_to_end(&mut bytes)?;
-    let text = answer(rt.alloc(), bytes.as_slice()).map_err(|why| match why {
-        Refusal::NoMemory => anyhow!("not enough memory"),
-        Refusal::NoDirectory => anyhow!("full and level directories are not answered yet"),
-    })?;
+    let text = answer(rt.alloc(), bytes.as_slice())?;
     rt.stdout().write_all(text.as_bytes())?;
     Ok(())
 }
