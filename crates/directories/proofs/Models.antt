@@ -19,8 +19,9 @@ use Rattle.shapes.proofs.Descended.{descend_stop}
 use Rattle.shapes.proofs.Sizes.{rows_under}
 use Rattle.shapes.proofs.Trees.{shapely_under, ceiling_is}
 use Rattle.directories.specs.declared.column.Column.{Column}
+use Rattle.directories.specs.declared.frozen.FrozenIndex.{FrozenIndex}
 use Rattle.directories.specs.declared.tree.Tree.{Tree}
-use Rattle.directories.specs.Frozen.{sought_under, frozen, AnyLayout}
+use Rattle.directories.specs.Frozen.{sought_under, frozen, AnyLayout, column_of, layout_of}
 use Rattle.directories.proofs.Columns.{ordered_from_test}
 use Rattle.directories.proofs.TreeFacts.{Facts, facts_under}
 
@@ -122,3 +123,7 @@ module _ {K : Type 0} {b : Ghosts K} (c : Column K b) where
         place = ap (λ (s : Sought). s.place) e ∙ any_layout b.before lawful c.rows.now column_ordered c.tree.layout c.tree.fine key side;
         rounds = ap (λ (s : Sought). s.rounds) e;
       }
+
+-- so what a frozen index means holds
+pub index_meant : {K : Type 0} {b : Ghosts K} (x : FrozenIndex K b) → Meant b.before (frozen b.before (layout_of x) (column_of x))
+index_meant x = column_meant x.column

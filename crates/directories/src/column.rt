@@ -62,6 +62,7 @@ impl<'a, K: Key> Column<'a, K> {
     }
 
     // The rows of a chunk.
+    #[tactic(auto, using(crate::proofs::TreeFacts::chunk))]
     fn chunk(&self, chunk: usize) -> &'a [K]
         requires { chunk < self.now.tree.shape.chunks }
         ensures { result.now ≡ chunk_rows self.now.tree.shape self.now.rows.now chunk }
@@ -85,7 +86,7 @@ impl<'a, K: Key> Column<'a, K> {
         let found = seek(self.chunk(chunk), key, side);
         Counted {
             answer: chunk * self.tree.shape.slots + found.answer,
-            comparisons: found.comparisons,
+            ..found
         }
     }
 }

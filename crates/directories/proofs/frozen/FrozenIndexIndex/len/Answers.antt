@@ -1,5 +1,5 @@
-use Rattle.directories.proofs.Models.{column_meant}
+use Rattle.directories.proofs.Models.{index_meant}
 use Rattle.directories.proofs.frozen.FrozenIndexIndex.len.Goals as goal
 
 pub returns-clause-meant : goal.returns-clause-meant
-returns-clause-meant g c = column_meant c.args.self.now.column
+returns-clause-meant g c = index_meant c.args.self.now
