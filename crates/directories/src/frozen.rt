@@ -15,6 +15,7 @@ pub struct FrozenIndex<'a, K: Key> {
     ghost agrees: { agree K.Key.before slots.now (slot_keys column.tree.shape column.rows.now) ≡ true },
 }
 
+// By hand, since over a ghost field the check derives no `Clone`.
 impl<'a, K: Key> Clone for FrozenIndex<'a, K> {
     ghost use Rattle.std.specs.Prelude.{⊤};
 
