@@ -1,9 +1,8 @@
--- A column in order, by the test and by places; and what a row past the end is answered.
-use Rattle.std.proofs.Common.{◌≡◌, ℕ, zero, suc, ◌≤◌, Bool, true, false, not, List, [], ◌∷◌, length, Err, sym, refl, inl, inr, add-one, arith}
-use Rattle.std.proofs.lemmas.Bool.{and_parts, and_from, not-true, not_from_false, cases_Bool, both_ways, cond-false, le-ltb}
+-- A column in order, by the test and by places.
+use Rattle.std.proofs.Common.{◌≡◌, zero, suc, Bool, true, false, not, List, [], ◌∷◌, sym, refl, inl, inr, add-one, arith}
+use Rattle.std.proofs.lemmas.Bool.{and_parts, and_from, not-true, not_from_false, cases_Bool, both_ways}
 use Rattle.std.specs.List.{IsAllAdjacentAnswer}
-use Rattle.indexes.specs.declared.decline.Decline.TheVariants.{NoSuchRow}
-use Rattle.indexes.specs.Meaning.{Ordered, row_answer}
+use Rattle.indexes.specs.Meaning.{Ordered}
 use Rattle.directories.specs.Opening.{in_order}
 
 module _ {K : Type 0} (before : K → K → Bool) where
@@ -31,7 +30,3 @@ module _ {K : Type 0} (before : K → K → Bool) where
         | inr e ↦ sym e
         | inl e ↦ absurd (both_ways _ (sym (bad.2 x)) (not_from_false _ (ordered_from_test (x ∷ xs) e bad.0 x bad.1)))
       ]
-
-module _ {K : Type 0} (rows : List K) (place : ℕ) where
-  pub row_past : length rows ≤ place → row_answer rows place ≡ Err NoSuchRow
-  row_past h = cond-false _ _ _ (le-ltb place (length rows) h)

@@ -39,7 +39,7 @@ module _ {K : Type 0} {b : Ghosts K} (lawful : Lawful b.before) (x : FrozenIndex
   turned count here found lt paid rest seeks =
       let f : Facts g = facts x.column.tree in
       let at : Sought = at_node g pass here in
-      let same = node_sought lawful x key side here lt in
+      let same = node_sought x lawful key side here lt in
       let place : found.answer ≡ at.place = seeks.place ∙ ap (λ (s : Sought). s.place) same in
       let rounds : found.comparisons ≡ at.rounds = seeks.comparisons ∙ ap (λ (s : Sought). s.rounds) same in
       let two : 2 ≤ g.children = f.lawful.two in

@@ -75,7 +75,7 @@ passed_alike before lawful key After a b e = ap not ((laws lawful).equivalent_af
 slot_place : (g : Shape) (b i : ℕ) → i < g.slots → row_of_slot g (b * g.slots + i) ≡ slot_row g b i
 slot_place g b i h = (λ j. slot_row g (digits_div b h j) (digits_mod b h j))
 
-module _ {K : Type 0} {b : Ghosts K} (lawful : Lawful b.before) (x : FrozenIndex K b) where
+module _ {K : Type 0} {b : Ghosts K} (x : FrozenIndex K b) where
   abbrev g : Shape
   g = x.column.tree.shape
 
@@ -106,9 +106,9 @@ module _ {K : Type 0} {b : Ghosts K} (lawful : Lawful b.before) (x : FrozenIndex
       let small : g.internal ≤ 1048576 = omega (arith, f.internal_few, f.rows_few) in
       record { from_in = omega arith; to_in = omega arith; few = omega arith; looked = omega arith; one = omega arith }
 
-  pub node_sought : (key : K) (side : Side) (n : ℕ) → n < g.internal
+  pub node_sought : Lawful b.before → (key : K) (side : Side) (n : ℕ) → n < g.internal
       → sought b.before (between (n * g.slots) (n * g.slots + (g.children - 1)) slots) key side ≡ at_node g (passed_at b.before rows key side) n
-  node_sought key side n h =
+  node_sought lawful key side n h =
       let f : Facts g = facts x.column.tree in
       let k : Node n = node n h in
       let some : 1 ≤ g.internal = omega arith in

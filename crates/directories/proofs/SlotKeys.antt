@@ -2,7 +2,7 @@
 use Rattle.std.proofs.Common.{◌≡◌, ℕ, zero, suc, ◌+◌, ◌*◌, ◌<◌, Bool, true, List, [], ◌∷◌, length, get_or, drop, ◌&&◌, drop-cons, add-one, sym, refl, ap, ◌∙◌, zero-mul, arith}
 use Rattle.std.proofs.lemmas.List.FromFn.{length-map-range_with_len, get_or-map-range_with_len}
 use Rattle.std.proofs.lemmas.List.{get_or_default, drop_all}
-use Rattle.std.proofs.lemmas.Bool.{and_parts, and_from}
+use Rattle.std.proofs.lemmas.Bool.{and_parts}
 use Rattle.std.specs.List.{list_all, enumerate_from}
 use Rattle.keys.specs.Order.{equivalent_under}
 use Rattle.shapes.specs.Layouts.{slots_in}
@@ -35,15 +35,6 @@ module _ {K : Type 0} (t : Tree) where
       ∙ get_or_default (first ∷ rest) (row_of_slot t.shape j) first d (row_exists (first ∷ rest) all j h)
 
 module _ {K : Type 0} (before : K → K → Bool) where
-  -- lists that agree, place by place
-  pub agree_from : (xs ys : List K) → length xs ≡ length ys → ((k : ℕ) → k < length xs → (d : K) → equivalent_under before (get_or xs k d) (get_or ys k d) ≡ true) → agree before xs ys ≡ true
-  agree_from [] [] same each = refl
-  agree_from [] (y ∷ ys) same each = absurd (omega arith)
-  agree_from (x ∷ xs) [] same each = absurd (omega arith)
-  agree_from (x ∷ xs) (y ∷ ys) same each =
-      and_from (equivalent_under before x y) (agree before xs ys) (each 0 (omega arith) x)
-      (agree_from xs ys (omega arith) (λ k h d. each (suc k) (omega arith) d))
-
   pub agree_length : (xs ys : List K) → agree before xs ys ≡ true → length xs ≡ length ys
   agree_length [] [] e = refl
   agree_length [] (y ∷ ys) e = let z : ◌≡◌ {A = ℕ} 0 1 = cc in absurd (omega arith)

@@ -69,6 +69,12 @@ module _ (t : Tree) where
       let small : g.internal ≤ 1048576 = omega (arith, f.internal_few, f.rows_few) in
       record { above = child_above g c i (omega arith); next = omega arith; fits = omega arith }
 
+  pub few_children : g.children ≤ 65
+  few_children = (facts t).sizes.children_few
+
+  pub children_below : (c : ℕ) → c < g.internal → c * g.children ≤ 68157440
+  children_below c h = omega (arith, (onward c 0 h (omega (arith, (facts t).lawful.two))).fits)
+
   -- the slot at a place is slot i of an internal node
   pub record Slot (place : ℕ) : Type 0 where
     pub some : 1 ≤ g.slots

@@ -21,6 +21,7 @@ impl Tree {
     }
 
     // How many rows a chunk has.
+    #[tactic(auto, using(crate::proofs::TreeFacts::chunk))]
     pub(crate) fn size_of(&self, chunk: usize) -> usize
         requires { chunk < self.now.shape.chunks }
         ensures is { result ≡ size self.now.shape chunk }
@@ -33,6 +34,7 @@ impl Tree {
     }
 
     // The number of its last row.
+    #[tactic(auto, using(crate::proofs::TreeFacts::chunk))]
     pub(crate) fn last_of(&self, chunk: usize) -> usize
         requires { chunk < self.now.shape.chunks }
         ensures { result ≡ last_row self.now.shape chunk }

@@ -15,7 +15,7 @@ pub(crate) struct Column<'a, K: Key> {
     ghost ordered: { in_order K.Key.before rows.now ≡ true },
 }
 
-// by hand: a derive takes no generic struct with a ghost field
+// By hand, since over a ghost field the check derives no `Clone`.
 impl<'a, K: Key> Clone for Column<'a, K> {
     ghost use Rattle.std.specs.Prelude.{⊤};
 
@@ -63,6 +63,7 @@ impl<'a, K: Key> Column<'a, K> {
     }
 
     // The rows of a chunk.
+    #[tactic(auto, using(crate::proofs::TreeFacts::chunk))]
     fn chunk(&self, chunk: usize) -> &'a [K]
         requires { chunk < self.now.tree.shape.chunks }
         ensures { result.now ≡ chunk_rows self.now.tree.shape self.now.rows.now chunk }
@@ -86,7 +87,7 @@ impl<'a, K: Key> Column<'a, K> {
         let found = seek(self.chunk(chunk), key, side);
         Counted {
             answer: chunk * self.tree.shape.slots + found.answer,
-            comparisons: found.comparisons,
+            ..found
         }
     }
 }

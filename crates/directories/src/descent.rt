@@ -7,7 +7,18 @@ impl<'a, K: Key> FrozenIndex<'a, K> {
     ghost use Rattle.directories.specs.Frozen.{column_of, layout_of};
     ghost use Rattle.directories.specs.Meanings.{sought_under};
     ghost use Rattle.indexes.specs.Meaning.{place_of};
-    ghost use Rattle.std.specs.Prelude.{◌≡◌};
+    ghost use Rattle.std.specs.List.{between};
+    ghost use Rattle.std.specs.Prelude.{◌≡◌, ◌<◌, ◌+◌, ◌-◌, ◌*◌};
+
+    // The keys of an internal node that are looked at.
+    fn keys_of(&self, node: usize) -> &'a [K]
+        requires { node < self.now.column.tree.shape.internal }
+        ensures { result.now ≡ between (node * self.now.column.tree.shape.slots) (node * self.now.column.tree.shape.slots + (self.now.column.tree.shape.children - 1)) self.now.slots.now }
+    {
+        let shape = &self.column.tree.shape;
+        let from = node * shape.slots;
+        &self.slots[from..from + (shape.children - 1)]
+    }
 
     // The place of a key in the column, sought through the slots.
     pub(crate) fn descend(&self, key: &K, side: Side) -> Counted<usize>
@@ -18,19 +29,14 @@ impl<'a, K: Key> FrozenIndex<'a, K> {
         let mut node = 0;
         let mut comparisons = 0;
         while node < tree.shape.internal {
-            let from = node * tree.shape.slots;
-            let found = seek(
-                &self.slots[from..from + (tree.shape.children - 1)],
-                key,
-                side,
-            );
+            let found = seek(self.keys_of(node), key, side);
             comparisons += found.comparisons;
             node = tree.child_of(node, found.answer);
         }
         let landed = self.column.land(node, key, side);
         Counted {
-            answer: landed.answer,
             comparisons: comparisons + landed.comparisons,
+            ..landed
         }
     }
 }

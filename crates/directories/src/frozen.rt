@@ -19,7 +19,7 @@ pub struct FrozenIndex<'a, K: Key> {
     ghost meant: { Meant K.Key.before (frozen K.Key.before column.tree.layout column.rows.now) } by { Prim.hlevel props },
 }
 
-// by hand: a derive takes no generic struct with a ghost field
+// By hand, since over a ghost field the check derives no `Clone`.
 impl<'a, K: Key> Clone for FrozenIndex<'a, K> {
     ghost use Rattle.std.specs.Prelude.{⊤};
 

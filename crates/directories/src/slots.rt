@@ -13,7 +13,7 @@ impl<'a, K: Key> Column<'a, K> {
         requires { place < slots_in self.now.tree.shape }
         ensures { (d : _) → result ≡ slice_index_or (slot_keys self.now.tree.shape self.now.rows.now) place d }
     {
-        self.rows[self.tree.slot_row(place)]
+        self.rows[self.tree.row_of(place)]
     }
 
     // Is this key equivalent to that of the slot at a place?

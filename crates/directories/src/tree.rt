@@ -46,6 +46,7 @@ impl Tree {
     }
 
     // How many slots its internal nodes have.
+    #[tactic(auto, using(crate::proofs::TreeFacts::few_slots))]
     pub(crate) fn slot_count(&self) -> usize
         ensures { result ≡ slots_in self.now.shape }
     {
@@ -53,6 +54,7 @@ impl Tree {
     }
 
     // A child of an internal node.
+    #[tactic(auto, using(crate::proofs::TreeFacts::few_children, crate::proofs::TreeFacts::children_below))]
     pub(crate) fn child_of(&self, node: usize, i: usize) -> usize
         requires internal { node < self.now.shape.internal }
         requires child { i < self.now.shape.children }
@@ -63,7 +65,7 @@ impl Tree {
     }
 
     // The row of the slot at a place among all slots.
-    pub(crate) fn slot_row(&self, place: usize) -> usize
+    pub(crate) fn row_of(&self, place: usize) -> usize
         requires { place < slots_in self.now.shape }
         ensures is { result ≡ row_of_slot self.now.shape place }
         ensures exists { result < self.now.shape.rows }

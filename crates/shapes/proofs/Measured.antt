@@ -1,6 +1,8 @@
 -- The geometry as the code computes it.
-use Rattle.std.proofs.Common.{◌≡◌, ℕ, zero, suc, ◌+◌, ◌-◌, ◌/◌, ◌^◌, ◌<◌, ◌≤◌, cond, leb, sym, refl, ap, ◌∙◌, subst, inl, inr, arith}
+use Rattle.std.proofs.Common.{◌≡◌, ℕ, zero, suc, ◌+◌, ◌-◌, ◌*◌, ◌/◌, ◌%◌, ◌^◌, ◌<◌, ◌≤◌, min, cond, leb, sym, refl, ap, ◌∙◌, subst, inl, inr, add-one, arith}
 use Rattle.std.proofs.lemmas.Bool.{lt-ltb, le-ltb, cases_lt}
+use Rattle.std.proofs.lemmas.Grind.{div_ceil_times}
+use native.Mathlib.Nat.{div-eq_of_lt-le, suc-mul}
 use Rattle.shapes.specs.declared.shape.Shape.{Shape}
 use Rattle.shapes.specs.Numbers.{shape, least, levels_of, chunks_of}
 use Rattle.shapes.proofs.Lawful.{pow_above, Lawful, lawful}
@@ -28,17 +30,23 @@ least_go w N k two h =
     let e : k + 1 ≡ suc k = omega arith in
     ap (least w N N) e ∙ sym (least_first w N N k h) ∙ least_more w N N k two (omega arith)
 
-pub measured : (n m w k p u l : ℕ) → chunks_of n m ≤ p → p ≡ w ^ k → least w (chunks_of n m) (chunks_of n m) k ≡ levels_of w (chunks_of n m)
-    → u ≡ cond (leb (chunks_of n m) 1) 0 ((p - 1) / (w - 1)) → l ≡ cond (leb (chunks_of n m) 1) 0 ((p - chunks_of n m) / (w - 1))
-    → ◌≡◌ {A = Shape} (record { rows = n; slots = m; children = w; chunks = chunks_of n m; levels = k; upper = u; late = l; internal = u - l; first = chunks_of n m - l }) (shape n m w)
-unfolding shape
-measured n m w k p u l enough power rest upper late =
-    let stop : k ≡ levels_of w (chunks_of n m) = sym (least_stop w (chunks_of n m) (chunks_of n m) k (rw power at enough)) ∙ rest in
-    rw (upper, late, power, stop)
+-- a quotient rounded up
+pub rounded_up : (n m : ℕ) → 1 ≤ m → n / m + min 1 (n % m) ≡ chunks_of n m
+rounded_up n m some =
+    let q : ℕ = n / m + min 1 (n % m) in
+    let bounds = div_ceil_times n m some in
+    let next : (q + 1) * m ≡ q * m + m = ap (λ k. k * m) (add-one q) ∙ suc-mul q m in
+    sym (div-eq_of_lt-le m (omega (arith, bounds.1)) (omega (arith, bounds.0, next)))
 
-pub late_fits : (n m w k p u l : ℕ) → 1 ≤ m → 2 ≤ w → chunks_of n m ≤ p → p ≡ w ^ k → least w (chunks_of n m) (chunks_of n m) k ≡ levels_of w (chunks_of n m)
-    → u ≡ cond (leb (chunks_of n m) 1) 0 ((p - 1) / (w - 1)) → l ≡ cond (leb (chunks_of n m) 1) 0 ((p - chunks_of n m) / (w - 1))
-    → (l ≤ u) × (l ≤ chunks_of n m)
-late_fits n m w k p u l some two enough power rest upper late =
-    let ok = subst Lawful (sym (measured n m w k p u l enough power rest upper late)) (lawful n m w some two) in
-    (omega (arith, ok.inner), omega (arith, ok.parts))
+module _ (n m w N k p u l : ℕ) (chunks : N ≡ chunks_of n m) (enough : N ≤ p) (power : p ≡ w ^ k) (rest : least w N N k ≡ levels_of w N)
+    (upper : u ≡ cond (leb N 1) 0 ((p - 1) / (w - 1))) (late : l ≡ cond (leb N 1) 0 ((p - N) / (w - 1))) where
+  pub measured : ◌≡◌ {A = Shape} (record { rows = n; slots = m; children = w; chunks = N; levels = k; upper = u; late = l; internal = u - l; first = N - l }) (shape n m w)
+  unfolding shape
+  measured =
+      let stop : k ≡ levels_of w N = sym (least_stop w N N k (rw power at enough)) ∙ rest in
+      rw (upper, late, power, stop, chunks)
+
+  pub late_fits : 1 ≤ m → 2 ≤ w → (l ≤ u) × (l ≤ N)
+  late_fits some two =
+      let ok = subst Lawful (sym measured) (lawful n m w some two) in
+      (omega (arith, ok.inner), omega (arith, ok.parts))

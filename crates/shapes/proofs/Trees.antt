@@ -101,18 +101,6 @@ shapely_under layout n fine =
           omega (arith, c, under_most g (lawful_under layout n fine) pass));
     }
 
--- the shape that passed the tests
-pub record ShapedBy (layout : Layout) (n : ℕ) (g : Shape) : Type 0 where
-  pub answers : Ok g ≡ shaping layout n
-  pub laws : Shapely layout g
-
-pub shaped_by : (layout : Layout) (n : ℕ) (g : Shape) → true ≡ allowed layout → n ≤ 1048576 → g ≡ shape_under layout n → ShapedBy layout n g
-shaped_by layout n g fine small is =
-    record {
-      answers = sym (cond-true _ _ _ (sym fine) ∙ cond-false _ _ _ (le-ltb 1048576 n small) ∙ ap Ok (sym is));
-      laws = subst (Shapely layout) (sym is) (shapely_under layout n (sym fine));
-    }
-
 -- an accepted shape passed the tests
 pub record Accepted (layout : Layout) (n : ℕ) (g : Shape) : Type 0 where
   pub fine : allowed layout ≡ true
@@ -142,3 +130,7 @@ slots_fit layout n g ok =
     let narrow : h.slots ≤ 1048576 = (small_under layout n ok.small ok.fine).slots_few in
     let all : h.internal * h.slots ≤ 1048576 * 1048576 = mul-le-mul few narrow in
     subst (λ (s : Shape). s.internal * s.slots ≤ 1048576 * 1048576) (sym ok.is) all
+
+-- and keeps the laws
+pub shaped_laws : (layout : Layout) (n : ℕ) (g : Shape) → Ok g ≡ shaping layout n → Shapely layout g
+shaped_laws layout n g e = let ok = accepted layout n g e in subst (Shapely layout) (sym ok.is) (shapely_under layout n ok.fine)

@@ -8,7 +8,7 @@ use indexes::{Decline, Layout, MAX_ROWS};
 
 // A column is cut into chunks of as many rows as a node has slots. Nodes are numbered from 0, the root, and the children
 // of a node stand side by side. The first nodes are internal, and the others are leaves, one to a chunk.
-#[derive(Clone, Copy)]
+#[derive(Clone, Copy, PartialEq, Eq, Debug)]
 pub struct Shape {
     // n: the rows of the column
     pub rows: usize,
@@ -36,10 +36,8 @@ fn is_allowed(layout: Layout) -> bool
 {
     match layout {
         Layout::Bare => true,
-        Layout::Full { slots } => 2 <= slots && slots <= 64,
-        Layout::Level { slots } => {
-            slots == 2 || slots == 4 || slots == 8 || slots == 16 || slots == 32 || slots == 64
-        }
+        Layout::Full { slots } => matches!(slots, 2..=64),
+        Layout::Level { slots } => matches!(slots, 2 | 4 | 8 | 16 | 32 | 64),
     }
 }
 
@@ -48,22 +46,20 @@ fn measured(rows: usize, slots: usize, children: usize) -> Shape
     requires { Measurable rows slots children }
     ensures { result ≡ shape rows slots children }
 {
-    let chunks = (rows + (slots - 1)) / slots;
+    let chunks = rows.div_ceil(slots);
     let mut levels = 0;
     let mut power = 1;
     while power < chunks {
         power *= children;
         levels += 1;
     }
-    let upper = if chunks <= 1 {
-        0
+    let (upper, late) = if chunks <= 1 {
+        (0, 0)
     } else {
-        (power - 1) / (children - 1)
-    };
-    let late = if chunks <= 1 {
-        0
-    } else {
-        (power - chunks) / (children - 1)
+        (
+            (power - 1) / (children - 1),
+            (power - chunks) / (children - 1),
+        )
     };
     Shape {
         rows,
@@ -110,8 +106,14 @@ impl Shape {
         }
         match layout {
             Layout::Bare => Ok(Shape::bare(rows)),
-            Layout::Full { slots } => Ok(measured(rows, slots as usize, slots as usize + 1)),
-            Layout::Level { slots } => Ok(measured(rows, slots as usize, slots as usize)),
+            Layout::Full { slots } => {
+                let slots = usize::from(slots);
+                Ok(measured(rows, slots, slots + 1))
+            }
+            Layout::Level { slots } => {
+                let slots = usize::from(slots);
+                Ok(measured(rows, slots, slots))
+            }
         }
     }
 }

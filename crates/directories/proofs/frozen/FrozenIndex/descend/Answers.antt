@@ -1,40 +1,22 @@
 -- A turn at an internal node, and the landing at a leaf or at no leaf.
-use Rattle.std.proofs.Common.{◌+◌, ap, ◌∙◌, arith}
-use Rattle.indexes.specs.Seeking.{Sought, passed_at}
+use Rattle.std.proofs.Common.{◌+◌, ap, ◌∙◌, subst, arith}
+use Rattle.indexes.specs.Seeking.{Sought, Seeks, passed_at}
 use Rattle.shapes.specs.Descent.{after, descend}
 use Rattle.directories.specs.Frozen.{column_of}
-use Rattle.directories.proofs.Parts.{Node, node}
 use Rattle.directories.proofs.Descents.{Turned, turned, landed, landed_few}
 use Rattle.directories.proofs.Models.{placed}
 use Rattle.directories.proofs.TreeFacts.{facts, onward}
 use Rattle.directories.proofs.frozen.FrozenIndex.descend.Given as given
 use Rattle.directories.proofs.frozen.FrozenIndex.descend.Goals as goal
-use Rattle.directories.proofs.frozen.FrozenIndex.descend.Goals.{In-loop-node, After-seek-found}
-
-here : (g : given.Over) (c : In-loop-node g) → Node g.met.K.Key.lawful c.args.self.now c.loop-node.node
-here g c = node g.met.K.Key.lawful c.args.self.now c.loop-node.node c.loop-node-test.true
-
-pub overflow_mul-from : goal.overflow_mul-from
-overflow_mul-from g c = let n = here g (goal.at.overflow_mul-from g c).In-loop-node in omega (arith, n.few)
-
-pub overflow_sub-tree : goal.overflow_sub-tree
-overflow_sub-tree g c = let n = here g (goal.at.overflow_sub-tree g c).In-loop-node in omega (arith, n.one)
-
-pub overflow_add-from : goal.overflow_add-from
-overflow_add-from g c = let n = here g (goal.at.overflow_add-from g c).In-loop-node in omega (arith, n.few)
-
-pub offset_bounds-self-from : goal.offset_bounds-self-from
-offset_bounds-self-from g c = let n = here g (goal.at.offset_bounds-self-from g c).In-loop-node in omega (arith, n.from_in)
-
-pub slice_bounds-seek-end : goal.slice_bounds-seek-end
-slice_bounds-seek-end g c = let n = here g (goal.at.slice_bounds-seek-end g c).In-loop-node in omega (arith, n.to_in)
+use Rattle.directories.proofs.frozen.FrozenIndex.descend.Goals.{After-seek-found}
 
 turn : (g : given.Over) (c : After-seek-found g)
     → Turned c.args.self.now.column.tree.shape (passed_at g.K.Key.before (column_of c.args.self.now) c.args.key.now c.args.side)
     (c.loop-node.comparisons + c.seek-found.result.comparisons) c.loop-node.node c.seek-found.result.answer
 turn g c =
     turned g.met.K.Key.lawful c.args.self.now c.args.key.now c.args.side
-    c.loop-node.comparisons c.loop-node.node c.seek-found.result c.loop-node-test.true c.loop-node.invariant.1 c.loop-node.invariant.2 c.seek-found.ensures
+    c.loop-node.comparisons c.loop-node.node c.seek-found.result c.loop-node-test.true c.loop-node.invariant.1 c.loop-node.invariant.2
+    (subst (λ part. Seeks g.K.Key.before part c.args.key.now c.args.side c.seek-found.result) c.keys_of.ensures c.seek-found.ensures)
 
 pub overflow_add-comparisons : goal.overflow_add-comparisons
 overflow_add-comparisons g c = let t = turn g (goal.at.overflow_add-comparisons g c).After-seek-found in omega (arith, t.fits)

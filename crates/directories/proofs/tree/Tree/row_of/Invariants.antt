@@ -1,7 +1,7 @@
 -- The walk on from here ends where the walk from the slot's child ends.
 use Rattle.std.proofs.Common.{◌≡◌, ◌-◌, ◌*◌, ◌/◌, ◌%◌, ◌≤◌}
 use Rattle.shapes.specs.Nodes.{along, child}
-use Rattle.directories.proofs.tree.Tree.slot_row.Given as goal
+use Rattle.directories.proofs.tree.Tree.row_of.Given as goal
 
 abbrev pub invariant-loop-node : goal.invariant-loop-node
 invariant-loop-node l =

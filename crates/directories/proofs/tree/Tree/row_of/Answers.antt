@@ -4,8 +4,8 @@ use Rattle.shapes.specs.Nodes.{along, chunk_at, last_row, last_held, slot_row}
 use Rattle.shapes.proofs.Walk.{along_stop, along_go}
 use Rattle.directories.specs.Slots.{row_of_slot}
 use Rattle.directories.proofs.TreeFacts.{slot, onward, leaf_exists, last_of_chunk, chunk_exists, row_below}
-use Rattle.directories.proofs.tree.Tree.slot_row.Goals as goal
-use Rattle.directories.proofs.tree.Tree.slot_row.Goals.{After-last_of}
+use Rattle.directories.proofs.tree.Tree.row_of.Goals as goal
+use Rattle.directories.proofs.tree.Tree.row_of.Goals.{After-last_of}
 
 pub child_of-node-requires-clause-internal : goal.child_of-node-requires-clause-internal
 child_of-node-requires-clause-internal c = (slot c.args.self.now c.args.place c.requires).inside
