@@ -4,7 +4,7 @@ use Rattle.std.specs.Option.{option_map}
 use Rattle.keys.specs.Weights.{lighter}
 use Rattle.indexes.specs.declared.layout.Layout.{Layout}
 use Rattle.indexes.specs.Meaning.{Meaning}
-use Rattle.directories.specs.Frozen.{bare}
+use Rattle.directories.specs.Meanings.{bare}
 use Rattle.directories.specs.Opening.{bare_opening}
 use Rattle.layers.specs.Reference.{none_struck}
 use Rattle.sheets.specs.declared.field.Kind.TheVariants.{Accounts, Labels}
@@ -14,7 +14,8 @@ use Rattle.sheets.specs.declared.sheet.Sheet.{Sheet}
 use Rattle.sheets.specs.Fields.{Piece, piece}
 use Rattle.sheets.specs.Grammar.{is, Said, state, left, col, viewed, sheet}
 use Rattle.sheets.specs.Said.{layout_of, account_spelled, label_spelled, keys_of, requests_of}
-use Rattle.sheets.proofs.Options.{some_same, bind_parts}
+use Rattle.std.proofs.lemmas.Option.{same_Some}
+use Rattle.sheets.proofs.Options.{bind_parts}
 use Rattle.answers.specs.declared.letter.Letter.{Letter}
 use Rattle.answers.specs.declared.letter.Letter.TheVariants as letter
 use Rattle.answers.specs.Printed.{opened_text, column_text, smaller, bare_text, text_under, text_of, printed}
@@ -30,10 +31,10 @@ some_sheet bs r e = some_of (sheet bs) e
 
 -- the column and the layout of a sheet that says s
 pub says_column : (r : Sheet) (s : Said) → viewed r ≡ Some s → s.column ≡ col r.column
-says_column r s e = let p = bind_parts (left (state r.calls)) _ s e in ap (λ (t : Said). t.column) (sym (some_same _ s p.2))
+says_column r s e = let p = bind_parts (left (state r.calls)) _ s e in ap (λ (t : Said). t.column) (sym (same_Some _ s p.2))
 
 pub says_layout : (r : Sheet) (s : Said) → viewed r ≡ Some s → s.directory.value ≡ r.directory.bytes.now
-says_layout r s e = let p = bind_parts (left (state r.calls)) _ s e in ap (λ (t : Said). t.directory.value) (sym (some_same _ s p.2))
+says_layout r s e = let p = bind_parts (left (state r.calls)) _ s e in ap (λ (t : Said). t.directory.value) (sym (same_Some _ s p.2))
 
 -- the text of a sheet that is read, by its layout
 pub text_by : (bs : List ℕ) (r : Sheet) (s : Said) (layout : Layout) → sheet bs ≡ Some s → viewed r ≡ Some s → layout ≡ layout_of r.directory.bytes.now → printed bs ≡ text_under layout s

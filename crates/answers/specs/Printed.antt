@@ -7,7 +7,7 @@ use Rattle.indexes.specs.declared.decline.Decline.TheVariants.{MalformedSheet}
 use Rattle.indexes.specs.declared.layout.Layout.{Layout}
 use Rattle.indexes.specs.declared.layout.Layout.TheVariants as layout
 use Rattle.indexes.specs.Declines.{number_of}
-use Rattle.directories.specs.Frozen.{bare}
+use Rattle.directories.specs.Meanings.{bare}
 use Rattle.directories.specs.Opening.{bare_opening}
 use Rattle.layers.specs.Reference.{none_struck}
 use Rattle.sheets.specs.declared.field.Kind.TheVariants.{Accounts}

@@ -40,7 +40,6 @@ pub(crate) fn run<K: Key, I: Index<K>>(
     list: &mut StrikeList<K, I>,
     requests: &[Request<K>],
 ) -> Result<String, AllocError>
-    requires { I.Index.opened list.old.below }
     ensures { IfOk result (λ t. string_bytes t ≡ lines K.Key.before (meant_below list.old) (has (out_of list.old)) requests.now) }
 {
     let mut text = String::new(heap);

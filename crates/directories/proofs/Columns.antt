@@ -1,7 +1,7 @@
 -- A column in order, by the test and by places; and what a row past the end is answered.
-use Rattle.std.proofs.Common.{◌≡◌, ℕ, zero, suc, ◌+◌, ◌-◌, ◌<◌, ◌≤◌, Bool, true, false, not, List, [], ◌∷◌, length, get_or, Err, sym, refl, inl, inr, add-one, arith}
+use Rattle.std.proofs.Common.{◌≡◌, ℕ, zero, suc, ◌≤◌, Bool, true, false, not, List, [], ◌∷◌, length, Err, sym, refl, inl, inr, add-one, arith}
 use Rattle.std.proofs.lemmas.Bool.{and_parts, and_from, not-true, not_from_false, cases_Bool, both_ways, cond-false, le-ltb}
-use Rattle.std.proofs.lemmas.List.Elements.{pair_read}
+use Rattle.std.specs.List.{IsAllAdjacentAnswer}
 use Rattle.indexes.specs.declared.decline.Decline.TheVariants.{NoSuchRow}
 use Rattle.indexes.specs.Meaning.{Ordered, row_answer}
 use Rattle.directories.specs.Opening.{in_order}
@@ -22,16 +22,14 @@ module _ {K : Type 0} (before : K → K → Bool) where
       and_from (not (before y x)) (in_order before (y ∷ ys)) (not_from_false (before y x) (up 0 x (omega arith)))
       (test_from_ordered (y ∷ ys) (λ i d h. rw add-one (rw add-one at (up (suc i) d (omega arith)))))
 
-  -- a row that comes before its predecessor fails the test
-  pub test_fails : (rows : List K) (i : ℕ) (x y : K) → 0 < i → i < length rows → x ≡ get_or rows (i - 1) x → y ≡ get_or rows i y → true ≡ before y x → in_order before rows ≡ false
-  test_fails rows i x y p q at_x at_y t =
-      elim (cases_Bool (in_order before rows)) [
-        | inr e ↦ e
-        | inl e ↦
-            let m : i - 1 + 1 ≡ i = omega arith in
-            let bad = pair_read rows (λ a b. before b a ≡ true) (i - 1) i x y (omega arith) q at_x at_y (sym t) x in
-            let good = rw m at (ordered_from_test rows e (i - 1) x (omega arith)) in
-            absurd (both_ways _ good bad)
+  -- what `is_sorted_by` answers
+  pub ordered_answer : (rows : List K) (r : Bool) → IsAllAdjacentAnswer (λ x y b. b ≡ not (before y x)) rows r → r ≡ in_order before rows
+  ordered_answer rows true all = sym (test_from_ordered rows (λ i d h. not-true _ (sym (all i d (omega arith)))))
+  ordered_answer [] false bad = absurd (omega (arith, bad.1))
+  ordered_answer (x ∷ xs) false bad =
+      elim (cases_Bool (in_order before (x ∷ xs))) [
+        | inr e ↦ sym e
+        | inl e ↦ absurd (both_ways _ (sym (bad.2 x)) (not_from_false _ (ordered_from_test (x ∷ xs) e bad.0 x bad.1)))
       ]
 
 module _ {K : Type 0} (rows : List K) (place : ℕ) where

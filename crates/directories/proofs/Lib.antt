@@ -1,5 +1,5 @@
 pub mod Columns
-pub mod Sounds
+pub mod TreeFacts
 pub mod SlotKeys
 pub mod Parts
 pub mod Descents

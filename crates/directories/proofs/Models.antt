@@ -1,5 +1,6 @@
 -- What a frozen column means holds, under each allowed layout; and an opened index stands on its slots.
 use Rattle.std.proofs.Common.{◌≡◌, ℕ, zero, suc, ◌+◌, ◌-◌, ◌*◌, ◌≤◌, min, Bool, true, List, length, Some, sym, refl, ap, ◌∙◌, subst, mul-le-mul, arith}
+use Rattle.keys.specs.declared.Key.{Ghosts}
 use Rattle.keys.specs.Order.{Lawful}
 use Rattle.indexes.specs.declared.index.Side.{Side}
 use Rattle.indexes.specs.declared.layout.Layout.{Layout}
@@ -17,10 +18,11 @@ use Rattle.shapes.proofs.Spans.{chunk_low}
 use Rattle.shapes.proofs.Descended.{descend_stop}
 use Rattle.shapes.proofs.Sizes.{rows_under}
 use Rattle.shapes.proofs.Trees.{shapely_under, ceiling_is}
-use Rattle.directories.specs.declared.frozen.FrozenIndex.{FrozenIndex}
-use Rattle.directories.specs.Slots.{Sound, Modest, Stands}
-use Rattle.directories.specs.Frozen.{sought_under, sought_in, frozen, AnyLayout, column_of, Open}
-use Rattle.directories.proofs.Sounds.{Facts, facts_under}
+use Rattle.directories.specs.declared.column.Column.{Column}
+use Rattle.directories.specs.declared.tree.Tree.{Tree}
+use Rattle.directories.specs.Meanings.{sought_under, frozen, AnyLayout}
+use Rattle.directories.proofs.Columns.{ordered_from_test}
+use Rattle.directories.proofs.TreeFacts.{Facts, facts_under}
 
 -- a descent through no node is one search of the column
 bare_leaf : (pass : ℕ → Bool) (n : ℕ) → at_leaf (one_chunk n) pass (Some 0) ≡ node_seek pass n
@@ -49,7 +51,9 @@ descent_under before (Level m) rows key side = refl
 -- the ceiling of a shape is that of its layout, and small
 pub record Ceiling (layout : Layout) (n : ℕ) (g : Shape) : Type 0 where
   pub is : most_rounds g ≡ ceiling_under layout n
-  pub modest : Modest g
+  pub some : 1 ≤ g.children
+  pub levels_few : g.levels ≤ 1048576
+  pub most_few : most_rounds g ≤ 7340053
 
 pub ceiling : (layout : Layout) (n : ℕ) (g : Shape) → allowed layout ≡ true → n ≤ 1048576 → g ≡ shape_under layout n → Ceiling layout n g
 ceiling layout n g fine small is =
@@ -61,7 +65,16 @@ ceiling layout n g fine small is =
     let b : bits (g.children - 1) ≤ 7 = bits_le 7 (g.children - 1) (omega arith) in
     let c : bits g.slots ≤ 21 = bits_le 21 g.slots (omega (arith, f.sizes.slots_few)) in
     let p : g.levels * bits (g.children - 1) ≤ 1048576 * 7 = mul-le-mul a b in
-    record { is = ap most_rounds is ∙ ceiling_is layout n fine; modest = record { some = omega arith; levels_few = a; most_few = omega arith } }
+    record { is = ap most_rounds is ∙ ceiling_is layout n fine; some = omega arith; levels_few = a; most_few = omega arith }
+
+pub tree_ceiling : (t : Tree) → Ceiling t.layout t.shape.rows t.shape
+tree_ceiling t = ceiling t.layout t.shape.rows t.shape t.fine t.few t.shaped
+
+pub tree_rounds : (t : Tree) → t.shape.levels * bits (t.shape.children - 1) + bits t.shape.slots ≡ ceiling_under t.layout t.shape.rows
+tree_rounds t = (tree_ceiling t).is
+
+pub rounds_few : (t : Tree) → t.shape.levels * bits (t.shape.children - 1) + bits t.shape.slots ≤ 7340053
+rounds_few t = (tree_ceiling t).most_few
 
 module _ {K : Type 0} (before : K → K → Bool) where
   capped : (layout : Layout) (rows : List K) → allowed layout ≡ true → (key : K) (side : Side) → (sought_under before layout rows key side).rounds ≤ ceiling_under layout (length rows)
@@ -73,7 +86,7 @@ module _ {K : Type 0} (before : K → K → Bool) where
   pub meant : (layout : Layout) (rows : List K) → allowed layout ≡ true → length rows ≤ 1048576 → Ordered before rows → Meant before (frozen before layout rows)
   meant layout rows fine few up =
       let c : Ceiling layout (length rows) (shape_under layout (length rows)) = ceiling layout (length rows) (shape_under layout (length rows)) fine few refl in
-      record { ordered = up; few = few; capped = capped layout rows fine; modest = omega (arith, c.is, c.modest.most_few) }
+      record { ordered = up; few = few; capped = capped layout rows fine; modest = omega (arith, c.is, c.most_few) }
 
   -- every layout finds the place that counting gives
   pub any_layout : Lawful before → (rows : List K) → Ordered before rows → AnyLayout before rows
@@ -86,31 +99,26 @@ module _ {K : Type 0} (before : K → K → Bool) where
       ∙ (shapely_under layout n fine).tree.descent_finds pass (sought before rows key side).place (subst (λ k. Cut pass k (sought before rows key side).place) (sym e) cut)
       ∙ sought_place before lawful rows up key side
 
-  -- an opened index stands on its slots
-  pub sound_under : (layout : Layout) (g : Shape) (n : ℕ) → allowed layout ≡ true → n ≤ 1048576 → g ≡ shape_under layout n → Sound g
-  sound_under layout g n fine small is =
-      let rows : g.rows ≡ n = ap (λ (s : Shape). s.rows) is ∙ rows_under layout n in
-      record { layout = layout; fine = fine; small = omega arith; is = is ∙ ap (shape_under layout) (sym rows) }
+module _ {K : Type 0} {b : Ghosts K} (c : Column K b) where
+  pub column_shaped : c.tree.shape ≡ shape_under c.tree.layout (length c.rows.now)
+  column_shaped = c.tree.shaped ∙ ap (shape_under c.tree.layout) (sym c.all)
 
-  pub stands : (x : FrozenIndex K) → Open before x → Stands before x.shape (column_of x) x.slots.now
-  stands x open' =
-      let n = length (column_of x) in
+  pub column_ordered : Ordered b.before c.rows.now
+  column_ordered = ordered_from_test b.before c.rows.now c.ordered
+
+  -- a column with its tree means what its layout does
+  pub column_meant : Meant b.before (frozen b.before c.tree.layout c.rows.now)
+  column_meant = meant b.before c.tree.layout c.rows.now c.tree.fine (omega (arith, c.all, c.tree.few)) column_ordered
+
+  -- and the descent through its tree is what its layout means
+  pub record Placed (key : K) (side : Side) (s : Sought) : Type 0 where
+    pub place : s.place ≡ place_of b.before c.rows.now key side
+    pub rounds : s.rounds ≡ (sought_under b.before c.tree.layout c.rows.now key side).rounds
+
+  pub placed : Lawful b.before → (key : K) (side : Side) → Placed key side (descent c.tree.shape (passed_at b.before c.rows.now key side))
+  placed lawful key side =
+      let e = ap (λ (g : Shape). descent g (passed_at b.before c.rows.now key side)) column_shaped ∙ descent_under b.before c.tree.layout c.rows.now key side in
       record {
-        sound = sound_under x.layout x.shape n open'.fine open'.meant.few open'.shaped;
-        all = sym (ap (λ (s : Shape). s.rows) open'.shaped ∙ rows_under x.layout n);
-        agrees = open'.agrees;
-      }
-
-  -- the descent of an opened index is what its layout means
-  pub record Placed (x : FrozenIndex K) (key : K) (side : Side) (s : Sought) : Type 0 where
-    pub place : s.place ≡ place_of before (column_of x) key side
-    pub rounds : s.rounds ≡ (sought_in before x key side).rounds
-
-  pub placed : Lawful before → (x : FrozenIndex K) → Open before x → (key : K) (side : Side) → Placed x key side (descent x.shape (passed_at before (column_of x) key side))
-  placed lawful x open' key side =
-      let rows = column_of x in
-      let e = ap (λ (g : Shape). descent g (passed_at before rows key side)) open'.shaped ∙ descent_under before x.layout rows key side in
-      record {
-        place = ap (λ (s : Sought). s.place) e ∙ any_layout lawful rows open'.meant.ordered x.layout open'.fine key side;
+        place = ap (λ (s : Sought). s.place) e ∙ any_layout b.before lawful c.rows.now column_ordered c.tree.layout c.tree.fine key side;
         rounds = ap (λ (s : Sought). s.rounds) e;
       }

@@ -1,51 +1,38 @@
 -- The slots of a directory place by place, as a loop writes them and as a list.
-use Rattle.std.proofs.Common.{◌≡◌, ℕ, zero, suc, ◌+◌, ◌*◌, ◌/◌, ◌%◌, ◌<◌, Bool, true, false, ◌≢◌, List, [], ◌∷◌, length, get_or, set, sym, refl, ap, ◌∙◌, inl, inr, zero-mul, arith, below_more}
-use Rattle.std.proofs.lemmas.List.FromFn.{length-map-range_with_len, get_or-map-range_with_len, fill_by_all}
-use Rattle.std.proofs.lemmas.List.{get_or-set_same, get_or-set_other, get_or_default, get_or_read}
-use Rattle.std.proofs.lemmas.Bool.{and_parts, and_from, cases_Bool}
+use Rattle.std.proofs.Common.{◌≡◌, ℕ, zero, suc, ◌+◌, ◌*◌, ◌<◌, Bool, true, List, [], ◌∷◌, length, get_or, drop, ◌&&◌, drop-cons, add-one, sym, refl, ap, ◌∙◌, zero-mul, arith}
+use Rattle.std.proofs.lemmas.List.FromFn.{length-map-range_with_len, get_or-map-range_with_len}
+use Rattle.std.proofs.lemmas.List.{get_or_default, drop_all}
+use Rattle.std.proofs.lemmas.Bool.{and_parts, and_from}
+use Rattle.std.specs.List.{list_all, enumerate_from}
 use Rattle.keys.specs.Order.{equivalent_under}
-use Rattle.shapes.specs.declared.shape.Shape.{Shape}
 use Rattle.shapes.specs.Layouts.{slots_in}
-use Rattle.directories.specs.Slots.{Sound, Over, Filled, Compared, row_of_slot, slot_keys, agree}
-use Rattle.directories.proofs.Sounds.{facts, slot}
-use Rattle.shapes.proofs.Spans.{slot_below}
+use Rattle.directories.specs.declared.tree.Tree.{Tree}
+use Rattle.directories.specs.Slots.{row_of_slot, slot_keys, agree}
+use Rattle.directories.proofs.TreeFacts.{facts, row_below}
 
-module _ {K : Type 0} (g : Shape) (rows : List K) (sound : Sound g) (all : length rows ≡ g.rows) where
-  pub row_exists : (j : ℕ) → j < slots_in g → row_of_slot g j < length rows
-  row_exists j h =
-      let s = slot g sound j h in
-      omega (arith, slot_below g (facts g sound).lawful (j / g.slots) (j % g.slots) s.inside)
+no_rows : (t : Tree) → 0 ≡ t.shape.rows → slots_in t.shape ≡ 0
+no_rows t all =
+    let e : t.shape.internal ≡ 0 = omega (arith, all, (facts t).internal_few) in
+    ap (λ y. y * t.shape.slots) e ∙ zero-mul t.shape.slots
 
-no_rows : (g : Shape) → Sound g → 0 ≡ g.rows → slots_in g ≡ 0
-no_rows g sound all =
-    let f = facts g sound in
-    let e : g.internal ≡ 0 = omega (arith, all, f.internal_few) in
-    ap (λ y. y * g.slots) e ∙ zero-mul g.slots
+module _ {K : Type 0} (t : Tree) where
+  abbrev key_at : List K → ℕ → K → K
+  key_at rows j d = get_or rows (row_of_slot t.shape j) d
 
--- as many as the shape has
-pub length_slot_keys : {K : Type 0} (g : Shape) (rows : List K) → Sound g → length rows ≡ g.rows → length (slot_keys g rows) ≡ slots_in g
-length_slot_keys g [] sound all = sym (no_rows g sound all)
-length_slot_keys g (first ∷ rest) sound all = length-map-range_with_len (λ j. get_or (first ∷ rest) (row_of_slot g j) first) 0 (slots_in g)
+  row_exists : (rows : List K) → length rows ≡ t.shape.rows → (j : ℕ) → j < slots_in t.shape → row_of_slot t.shape j < length rows
+  row_exists rows all j h = omega (arith, all, row_below t j h)
 
--- each the key of its row
-pub slot_key : {K : Type 0} (g : Shape) (rows : List K) → Sound g → length rows ≡ g.rows → (j : ℕ) (d : K) → j < slots_in g → get_or (slot_keys g rows) j d ≡ get_or rows (row_of_slot g j) d
-slot_key g [] sound all j d h = absurd (omega (arith, no_rows g sound all))
-slot_key g (first ∷ rest) sound all j d h =
-    get_or-map-range_with_len (λ i. get_or (first ∷ rest) (row_of_slot g i) first) 0 (slots_in g) j j d h (omega arith)
-    ∙ get_or_default (first ∷ rest) (row_of_slot g j) first d (row_exists g (first ∷ rest) sound all j h)
+  -- as many as the shape has
+  pub length_slot_keys : (rows : List K) → length rows ≡ t.shape.rows → length (slot_keys t.shape rows) ≡ slots_in t.shape
+  length_slot_keys [] all = sym (no_rows t all)
+  length_slot_keys (first ∷ rest) all = length-map-range_with_len (λ j. key_at (first ∷ rest) j first) 0 (slots_in t.shape)
 
--- a loop writes one slot more
-pub filled_more : {K : Type 0} (g : Shape) (rows slots : List K) (i : ℕ) (key : K) → Filled g rows i slots → i < length slots → row_of_slot g i < length rows → key ≡ get_or rows (row_of_slot g i) key → Filled g rows (i + 1) (set slots i key)
-filled_more g rows slots i key filled lt exists is =
-    below_more _ _
-    (λ k h d. let ne : k ≢ i = omega arith in get_or-set_other slots i k key d ne ∙ filled k h d)
-    (λ d. get_or-set_same slots i key d lt ∙ get_or_read rows (row_of_slot g i) key exists is d)
-
-pub filled_all : {K : Type 0} (g : Shape) (rows slots : List K) → Sound g → length rows ≡ g.rows → length slots ≡ slots_in g → Filled g rows (length slots) slots → slots ≡ slot_keys g rows
-filled_all g [] [] sound all long filled = refl
-filled_all g [] (x ∷ xs) sound all long filled = absurd (omega (arith, no_rows g sound all))
-filled_all g (first ∷ rest) slots sound all long filled =
-    fill_by_all (λ j. get_or (first ∷ rest) (row_of_slot g j) first) slots (slots_in g) first long (λ k h. filled k (omega arith) first)
+  -- each the key of its row
+  pub slot_key : (rows : List K) → length rows ≡ t.shape.rows → (j : ℕ) (d : K) → j < slots_in t.shape → get_or (slot_keys t.shape rows) j d ≡ key_at rows j d
+  slot_key [] all j d h = absurd (omega (arith, no_rows t all))
+  slot_key (first ∷ rest) all j d h =
+      get_or-map-range_with_len (λ i. key_at (first ∷ rest) i first) 0 (slots_in t.shape) j j d h (omega arith)
+      ∙ get_or_default (first ∷ rest) (row_of_slot t.shape j) first d (row_exists (first ∷ rest) all j h)
 
 module _ {K : Type 0} (before : K → K → Bool) where
   -- lists that agree, place by place
@@ -69,23 +56,10 @@ module _ {K : Type 0} (before : K → K → Bool) where
   agree_at (x ∷ xs) (y ∷ ys) zero d e h = (and_parts (equivalent_under before x y) (agree before xs ys) e).0
   agree_at (x ∷ xs) (y ∷ ys) (suc k) d e h = agree_at xs ys k d (and_parts (equivalent_under before x y) (agree before xs ys) e).1 (omega arith)
 
-  -- a slot and its row as a loop reads them
-  pub read_equivalent : (g : Shape) (rows slots : List K) → length rows ≡ g.rows → (i r : ℕ) (x y d : K) → i < length slots
-      → x ≡ get_or slots i x → r ≡ row_of_slot g i → r < g.rows → y ≡ get_or rows r y
-      → equivalent_under before (get_or slots i d) (get_or rows (row_of_slot g i) d) ≡ equivalent_under before x y
-  read_equivalent g rows slots all i r x y d lt at_x is_row exists at_y =
-      let r-in : r < length rows = omega arith in
-      (λ j. equivalent_under before (sym (get_or_read slots i x lt at_x d) j) ((ap (λ n. get_or rows n d) (sym is_row) ∙ sym (get_or_read rows r y r-in at_y d)) j))
-
-  -- what the comparison of all slots tells
-  pub compared : (g : Shape) (rows slots : List K) (r : Bool) → Over g rows (length slots) → Compared before g rows slots r → r ≡ agree before slots (slot_keys g rows)
-  compared g rows slots true over alike =
-      sym (agree_from slots (slot_keys g rows) (over.counted ∙ sym (length_slot_keys g rows over.sound over.all))
-      (λ k h d. ap (equivalent_under before (get_or slots k d)) (slot_key g rows over.sound over.all k d (omega (arith, over.counted))) ∙ alike k h d))
-  compared g rows slots false over differ =
-      elim (cases_Bool (agree before slots (slot_keys g rows))) [
-        | inr e ↦ sym e
-        | inl e ↦ absurd (differ (λ k h d.
-            ap (equivalent_under before (get_or slots k d)) (sym (slot_key g rows over.sound over.all k d (omega (arith, over.counted))))
-            ∙ agree_at slots (slot_keys g rows) k d e h))
-      ]
+  -- slots from place i on, each beside the key at its own place
+  pub all_agree : (i : ℕ) (xs ys : List K) → i + length xs ≡ length ys
+      → list_all (λ (p : ℕ × K). equivalent_under before p.1 (get_or ys p.0 p.1)) (enumerate_from i xs) ≡ agree before xs (drop i ys)
+  all_agree i [] ys same = sym (ap (λ l. agree before [] l) (drop_all i ys (omega arith)))
+  all_agree i (x ∷ xs) ys same =
+      (λ j. equivalent_under before x (get_or ys i x) && all_agree (i + 1) xs ys (omega arith) j)
+      ∙ ap (λ l. agree before (x ∷ xs) l) (ap (λ n. get_or ys i x ∷ drop n ys) (add-one i) ∙ sym (drop-cons ys i x (omega arith)))

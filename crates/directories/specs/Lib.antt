@@ -1,3 +1,6 @@
-pub mod Slots
-pub mod Opening
+pub mod Columns
 pub mod Frozen
+pub mod Meanings
+pub mod Opening
+pub mod Slots
+pub mod Trees

@@ -1,9 +1,8 @@
 -- Which columns and slots are declined, and why. Assumes nothing.
-use Rattle.std.specs.Prelude.{◌≡◌, ℕ, Bool, true, cond, not, ◌&&◌, List, [], ◌∷◌, ◌++◌, length, Ok, Err, Result, ◌==◌, nat_lt}
+use Rattle.std.specs.Prelude.{ℕ, Bool, true, cond, not, ◌&&◌, List, [], ◌∷◌, ◌++◌, length, Ok, Err, Result, ◌==◌, nat_lt}
 use Rattle.indexes.specs.declared.decline.Decline.{Decline}
 use Rattle.indexes.specs.declared.decline.Decline.TheVariants.{NodeSize, TooManyRows, OutOfOrder, SlotCount, SlotDiffers}
 use Rattle.indexes.specs.declared.layout.Layout.{Layout}
-use Rattle.shapes.specs.declared.shape.Shape.{Shape}
 use Rattle.shapes.specs.Layouts.{allowed, shape_under, slots_in}
 use Rattle.directories.specs.Slots.{slots_under, agree}
 
@@ -46,8 +45,3 @@ bare_opening before column =
 abbrev pub kept_or : {X : Type 0} → Result Unit Decline → X → X → X
 kept_or (Ok x) had new = new
 kept_or (Err e) had new = had
-
--- the shape over a column, or the reason why there is none
-abbrev pub Fits : {K : Type 0} → (K → K → Bool) → Layout → List K → ℕ → Result Shape Decline → Type 0
-Fits before layout column slots (Ok g) = (building before layout column slots ≡ Ok tt) × (g ≡ shape_under layout (length column))
-Fits before layout column slots (Err why) = building before layout column slots ≡ Err why

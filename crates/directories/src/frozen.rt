@@ -1,89 +1,97 @@
 // A frozen column: rows in order that no longer change, with what is built over them.
-ghost use Rattle.std.specs.Prelude.{◌≡◌, []};
-ghost use Rattle.directories.specs.Frozen.{Holding, Open, Opens, column_of, frozen};
-ghost use Rattle.indexes.specs.declared.layout.Layout.TheVariants.{Bare};
+ghost use Rattle.directories.specs.Meanings.{frozen};
+ghost use Rattle.directories.specs.Slots.{agree, slot_keys};
+ghost use Rattle.indexes.specs.Meaning.{Meant};
+ghost use Rattle.std.proofs.Props.{props};
+ghost use Rattle.std.specs.Prelude.{◌≡◌, true};
 
-use crate::column::fitted;
-use crate::descent::most_comparisons;
-use crate::slots::agrees;
+use crate::column::Column;
 use indexes::{Counted, Decline, Index, Layout, Side};
 use keys::Key;
-use shapes::Shape;
+use std::alloc::AllocError;
 
-// The shape is computed once, at the opening.
-#[derive(Clone, Copy)]
-pub struct FrozenIndex<'a, K> {
-    pub(crate) layout: Layout,
-    pub(crate) shape: Shape,
-    pub(crate) rows: &'a [K],
+// The tree is computed once, at the opening.
+#[derive(Copy)]
+pub struct FrozenIndex<'a, K: Key> {
+    pub(crate) column: Column<'a, K>,
     pub(crate) slots: &'a [K],
+    ghost agrees: { agree K.Key.before slots.now (slot_keys column.tree.shape column.rows.now) ≡ true },
+    ghost meant: { Meant K.Key.before (frozen K.Key.before column.tree.layout column.rows.now) } by { Prim.hlevel props },
+}
+
+// by hand: a derive takes no generic struct with a ghost field
+impl<'a, K: Key> Clone for FrozenIndex<'a, K> {
+    ghost use Rattle.std.specs.Prelude.{⊤};
+
+    ghost is_clone = { λ x y. y ≡ x };
+
+    ghost is_infallible = { λ _. ⊤ };
+
+    fn clone(&self) -> Result<Self, AllocError> {
+        Ok(*self)
+    }
 }
 
 impl<'a, K: Key> FrozenIndex<'a, K> {
+    ghost use Rattle.directories.specs.Frozen.{Opens, column_of, layout_of};
+    ghost use Rattle.indexes.specs.declared.layout.Layout.TheVariants.{Bare};
+    ghost use Rattle.std.specs.Prelude.{[]};
+
     // A bare column without rows.
     pub fn empty() -> Self
         ensures holds { column_of result ≡ [] }
-        ensures layout { result.layout ≡ Bare }
-        ensures opened { Open K.Key.before result }
+        ensures layout { layout_of result ≡ Bare }
     {
         FrozenIndex {
-            layout: Layout::Bare,
-            shape: Shape::bare(0),
-            rows: &[],
+            column: Column::empty(),
             slots: &[],
-        }
-    }
-
-    // A column with the slots of its directory, both checked.
-    fn over(column: &'a [K], layout: Layout, shape: Shape, slots: &'a [K]) -> Self
-        ensures { Holding layout shape column.now slots.now result }
-    {
-        FrozenIndex {
-            layout,
-            shape,
-            rows: column,
-            slots,
         }
     }
 
     // What is built over the column.
     pub fn layout(&self) -> Layout
-        ensures answers { result ≡ self.now.layout }
+        ensures answers { result ≡ layout_of self.now }
     {
-        self.layout
+        self.column.tree.layout
     }
 
-    // Makes the column the rows of this index, empty or open already, with the slots of its directory; or declines and
-    // leaves it. A bare column has no slots.
+    // Makes the column the rows of this index, with the slots of its directory; or declines and leaves it. A bare column
+    // has no slots.
     pub fn open(&mut self, column: &'a [K], layout: Layout, slots: &'a [K]) -> Result<(), Decline>
         ensures { Opens K.Key.before layout column.now slots.now self.old self.new result }
     {
-        let shape = fitted(column, layout, slots.len())?;
-        if !agrees(&shape, column, slots) {
+        let column = Column::over(column, layout, slots.len())?;
+        if !column.agrees(slots) {
             return Err(Decline::SlotDiffers);
         }
-        *self = FrozenIndex::over(column, layout, shape, slots);
+        *self = FrozenIndex { column, slots };
         Ok(())
     }
 }
 
 impl<'a, K: Key> Index<K> for FrozenIndex<'a, K> {
-    ghost means = { λ x. frozen K.Key.before x.layout (column_of x) };
+    ghost use Rattle.directories.specs.Frozen.{column_of, layout_of};
+    ghost use Rattle.std.specs.Prelude.{⊤};
 
-    ghost opened = { Open K.Key.before };
+    ghost means = { λ x. frozen K.Key.before (layout_of x) (column_of x) };
 
-    ghost meant = { λ x o. o.meant };
+    // every frozen index is open: its type says so
+    ghost opened = { λ _. ⊤ };
+
+    ghost opened_is_fact = { λ _. Prim.hlevel props };
+
+    ghost meant = { λ x _. x.meant };
 
     fn len(&self) -> usize {
-        self.rows.len()
+        self.column.rows.len()
     }
 
     fn ceiling(&self) -> u32 {
-        most_comparisons(&self.shape)
+        self.column.tree.most_comparisons()
     }
 
     fn row(&self, place: usize, held: &mut K) -> Result<(), Decline> {
-        let Some(row) = self.rows.get(place) else {
+        let Some(row) = self.column.rows.get(place) else {
             return Err(Decline::NoSuchRow);
         };
         *held = *row;

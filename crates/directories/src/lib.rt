@@ -5,6 +5,10 @@
 // is then an index over the column: a place is found by a descent through the slots to one chunk of the column. Under
 // `Layout::Bare` there are no slots, and the one chunk is the column.
 //
+// What must hold stands in the types: a `Tree` is an allowed layout with the shape that it has over few rows, a `Column` is
+// rows in order with a tree over so many, and a `FrozenIndex` is a column with slots that agree with it. So every frozen
+// index answers, from `empty` on, and no call has to be shown that it was opened.
+//
 // It promises, for every lawful kind of key: each decline, in the order of the numbers, with everything left as it was;
 // exactly the slots of the rules; that an index opens exactly where its slots are equivalent to those; and exactly the
 // places and comparisons of the descent that the rules define, which are the places that counting over all rows gives,
@@ -19,6 +23,7 @@ mod descent;
 mod directory;
 mod frozen;
 mod slots;
+mod tree;
 
 pub use directory::build;
 pub use frozen::FrozenIndex;

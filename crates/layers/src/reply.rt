@@ -20,7 +20,6 @@ fn done<K: Key>(res: Result<(), Decline>) -> Result<Answer<K>, Decline>
 impl<K: Key, I: Index<K>> StrikeList<K, I> {
     // The key at a place, put over the one that the caller holds.
     fn read(&self, place: usize, key: K) -> Result<Answer<K>, Decline>
-        requires { I.Index.opened self.now.below }
         ensures { result ≡ reply K.Key.before (meant_below self.now) (has (out_of self.now)) (Call.Row place key) }
     {
         let mut held = key;
@@ -30,7 +29,6 @@ impl<K: Key, I: Index<K>> StrikeList<K, I> {
 
     // Carries out one call, and answers it.
     pub fn answer(&mut self, call: &Call<K>) -> Result<Answer<K>, Decline>
-        requires { I.Index.opened self.old.below }
         ensures { Step self.old call.now result self.new }
     {
         match call {

@@ -3,31 +3,25 @@ use indexes::Side;
 use keys::Account;
 use std::alloc::{AllocError, Global};
 
-pub const ROWS: u32 = 1_048_576;
+const ROWS: u32 = 1_048_576;
 
 // The rows: 0, 0, 0, 7, 7, 7, 14 and so on; the last, 2,446,675, is alone.
 pub fn rising(heap: Global) -> Result<Vec<Account>, AllocError> {
-    let mut column = Vec::new(heap);
-    for row in 0..ROWS {
-        let number = row / 3 * 7;
-        column.push(Account { number })?;
-    }
-    Ok(column)
+    (0..ROWS)
+        .map(|row| Account::from(row / 3 * 7))
+        .collect(heap)
 }
 
 // Before the key stand three rows for each multiple of 7 that is less than it, or, on the other side, not more.
 pub fn expected_place(number: u32, side: Side) -> u32 {
-    let less = number / 7 + if number % 7 == 0 { 0 } else { 1 };
-    let passed = match side {
-        Side::At => less,
+    let multiples = match side {
+        Side::At => number.div_ceil(7),
         Side::After => number / 7 + 1,
     };
-    ROWS.min(passed.saturating_mul(3))
+    ROWS.min(multiples.saturating_mul(3))
 }
 
 // The key of a lookup: scattered over the rows and a little past the last, one in seven of them a row's.
 pub fn scattered(lookup: u32) -> Account {
-    Account {
-        number: lookup.wrapping_mul(2_654_435_761) % 2_450_000,
-    }
+    Account::from(lookup.wrapping_mul(2_654_435_761) % 2_450_000)
 }

@@ -12,51 +12,38 @@ mod trial;
 
 use column::rising;
 use indexes::Layout;
-use trial::{Expected, Trial, tried};
+use trial::Directory;
 
-fn print(rt: &HostRuntime, name: &str, found: Trial) -> anyhow::Result<()> {
-    let slots = found.slots;
-    let ceiling = found.ceiling;
-    let lookups = found.lookups;
-    let differ = found.differ;
-    println!(rt;
-        "{name:<9} {slots:>6} slots {lookups:>7} lookups of at most {ceiling} comparisons {differ:>2} differ"
-    )?;
-    Ok(())
-}
+// The directories that are tried, with their numbers worked by hand.
+const DIRECTORIES: [Directory<'static>; 3] = [
+    Directory {
+        name: "full 16",
+        layout: Layout::Full { slots: 16 },
+        slots: 65_536,
+        ceiling: 25,
+    },
+    Directory {
+        name: "level 16",
+        layout: Layout::Level { slots: 16 },
+        slots: 69_904,
+        ceiling: 21,
+    },
+    Directory {
+        name: "bare",
+        layout: Layout::Bare,
+        slots: 0,
+        ceiling: 21,
+    },
+];
 
 fn run(rt: &HostRuntime) -> anyhow::Result<()> {
     let heap = rt.alloc();
     let column = rising(heap)?;
     let rows = column.len();
     println!(rt; "{rows} rows")?;
-    let full = Expected {
-        slots: 65_536,
-        ceiling: 25,
-    };
-    let level = Expected {
-        slots: 69_904,
-        ceiling: 21,
-    };
-    let bare = Expected {
-        slots: 0,
-        ceiling: 21,
-    };
-    print(
-        rt,
-        "full 16",
-        tried(heap, column.as_slice(), Layout::Full { slots: 16 }, full)?,
-    )?;
-    print(
-        rt,
-        "level 16",
-        tried(heap, column.as_slice(), Layout::Level { slots: 16 }, level)?,
-    )?;
-    print(
-        rt,
-        "bare",
-        tried(heap, column.as_slice(), Layout::Bare, bare)?,
-    )?;
+    for directory in &DIRECTORIES {
+        rt.println(directory.tried(heap, column.as_slice())?)?;
+    }
     Ok(())
 }
 

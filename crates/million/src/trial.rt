@@ -5,67 +5,76 @@ use indexes::{Index, Layout, Side};
 use keys::Account;
 use shapes::slot_count;
 use std::alloc::{AllocError, Global};
+use std::fmt;
+use trials::Tally;
 
-// The numbers of a directory over the column, worked by hand.
-#[derive(Clone, Copy)]
-pub struct Expected {
+// A directory over the column, with its numbers worked by hand.
+#[derive(Clone, Copy, PartialEq, Eq, Debug)]
+pub struct Directory<'a> {
+    pub name: &'a str,
+    pub layout: Layout,
     pub slots: usize,
     pub ceiling: u32,
 }
 
-// What was found of one layout.
-#[derive(Clone, Copy)]
-pub struct Trial {
-    pub slots: usize,
-    pub ceiling: u32,
-    pub lookups: u32,
-    pub differ: u32,
+// What was found of a directory.
+#[derive(Clone, Copy, PartialEq, Eq, Debug)]
+pub struct Trial<'a> {
+    directory: Directory<'a>,
+    opened: Tally,
+    lookups: Tally,
 }
 
-impl Trial {
-    fn note(&mut self, as_expected: bool) {
-        if !as_expected {
-            self.differ = self.differ.saturating_add(1);
+impl<'a> Directory<'a> {
+    // Looks up 50,000 keys on either side.
+    fn looked_up<I: Index<Account>>(&self, index: &I) -> Tally
+        requires { I.Index.opened index.now }
+    {
+        let mut lookups = Tally::new();
+        for lookup in 1..=50_000 {
+            let key = scattered(lookup);
+            for side in [Side::At, Side::After] {
+                let found = index.place(&key, side);
+                let expected = expected_place(key.number, side) as usize;
+                lookups.note(found.answer == expected && found.comparisons <= self.ceiling);
+            }
         }
+        lookups
+    }
+
+    pub fn tried(&self, heap: Global, column: &[Account]) -> Result<Trial<'a>, AllocError> {
+        let mut opened = Tally::new();
+        let mut slots = vec![in heap; Account::from(0); self.slots]?;
+        opened.note(slot_count(self.layout, column.len()) == Ok(self.slots));
+        opened.note(build(column, self.layout, slots.as_mut_slice()).is_ok());
+        let mut index = FrozenIndex::empty();
+        opened.note(index.open(column, self.layout, slots.as_slice()).is_ok());
+        opened.note(index.len() == column.len());
+        opened.note(index.ceiling() == self.ceiling);
+        let lookups = self.looked_up(&index);
+        Ok(Trial {
+            directory: *self,
+            opened,
+            lookups,
+        })
     }
 }
 
-// Looks up 50,000 keys on either side.
-fn look_up<I: Index<Account>>(trial: &mut Trial, index: &I)
-    requires { I.Index.opened index.now }
-{
-    for lookup in 1..=50_000 {
-        let key = scattered(lookup);
-        for side in [Side::At, Side::After] {
-            let found = index.place(&key, side);
-            trial.note(
-                found.answer == expected_place(key.number, side) as usize
-                    && found.comparisons <= trial.ceiling,
-            );
-            trial.lookups = trial.lookups.saturating_add(1);
-        }
+impl<'a> fmt::Display for Trial<'a> {
+    fn fmt<W: fmt::Write>(&self, f: &mut fmt::Formatter<W>) -> fmt::Result {
+        let Directory {
+            name,
+            slots,
+            ceiling,
+            ..
+        } = self.directory;
+        let lookups = self.lookups.tried;
+        let mut all = self.opened;
+        all += self.lookups;
+        let differ = all.differ;
+        write!(
+            f,
+            "{name:<9} {slots:>6} slots {lookups:>7} lookups of at most {ceiling} comparisons {differ:>2} differ"
+        )
     }
-}
-
-pub fn tried(
-    heap: Global,
-    column: &[Account],
-    layout: Layout,
-    expected: Expected,
-) -> Result<Trial, AllocError> {
-    let mut trial = Trial {
-        slots: expected.slots,
-        ceiling: expected.ceiling,
-        lookups: 0,
-        differ: 0,
-    };
-    let mut slots = vec![in heap; Account { number: 0 }; expected.slots]?;
-    trial.note(matches!(slot_count(layout, column.len()), Ok(count) if count == expected.slots));
-    trial.note(build(column, layout, slots.as_mut_slice()).is_ok());
-    let mut index = FrozenIndex::empty();
-    trial.note(index.open(column, layout, slots.as_slice()).is_ok());
-    trial.note(index.len() == column.len());
-    trial.note(index.ceiling() == expected.ceiling);
-    look_up(&mut trial, &index);
-    Ok(trial)
 }

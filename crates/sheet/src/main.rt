@@ -8,19 +8,14 @@ use anyhow::anyhow;
 use sheets::MOST;
 use std::io::{Read, Write};
 
-fn run(rt: &HostRuntime) -> anyhow::Result<()> {
+fn main(rt: HostRuntime) -> anyhow::Result<()> {
     let mut bytes = Vec::new(rt.alloc());
     // one byte more than a sheet may have shows that it is too long
     rt.stdin().take(MOST as u64 + 1).read_to_end(&mut bytes)?;
-    match answer(rt.alloc(), bytes.as_slice()) {
-        Ok(text) => Ok(rt.stdout().write_all(text.as_bytes())?),
-        Err(Refusal::NoMemory) => Err(anyhow!("not enough memory")),
-        Err(Refusal::NoDirectory) => Err(anyhow!(
-            "full and level directories are not answered yet"
-        )),
-    }
-}
-
-fn main(rt: HostRuntime) -> anyhow::Result<()> {
-    run(&rt)
+    let text = answer(rt.alloc(), bytes.as_slice()).map_err(|why| match why {
+        Refusal::NoMemory => anyhow!("not enough memory"),
+        Refusal::NoDirectory => anyhow!("full and level directories are not answered yet"),
+    })?;
+    rt.stdout().write_all(text.as_bytes())?;
+    Ok(())
 }

@@ -4,7 +4,8 @@ use Rattle.sheets.specs.declared.reader.Stage.{Stage}
 use Rattle.sheets.specs.declared.reader.Stage.TheVariants as stage
 use Rattle.sheets.specs.Fields.{Piece}
 use Rattle.sheets.specs.Grammar.{step_at, step, bind, Step, State, pieces, left, ended}
-use Rattle.sheets.proofs.Options.{none_some, some_same, bind_same}
+use Rattle.std.proofs.lemmas.Option.{same_Some, none-some}
+use Rattle.sheets.proofs.Options.{bind_same}
 use Rattle.sheets.proofs.Steps.{taken, shorter}
 
 -- a field, and then those that are left after it
@@ -52,14 +53,14 @@ left_stop q e h = stop_at q.stage q.whole q.rest e h
 
 -- nothing is left at the end
 pub ended_nil : (s : Stage) (fs : List Piece) → ended s ≡ Some fs → fs ≡ []
-ended_nil stage.Start fs e = none_some fs e
-ended_nil stage.Chosen fs e = none_some fs e
-ended_nil stage.Accounts fs e = sym (some_same _ _ e)
-ended_nil stage.Labels fs e = sym (some_same _ _ e)
+ended_nil stage.Start fs e = absurd (none-some fs e)
+ended_nil stage.Chosen fs e = absurd (none-some fs e)
+ended_nil stage.Accounts fs e = sym (same_Some _ _ e)
+ended_nil stage.Labels fs e = sym (same_Some _ _ e)
 
 no_more : (s : Stage) (z : ℕ) (bs : List ℕ) (fs : List Piece) → None ≡ step_at s z bs → pieces (length bs) s z bs ≡ Some fs → fs ≡ []
 no_more s z [] fs e h = ended_nil s fs h
-no_more s z (b ∷ bs) fs e h = none_some fs (ap after_step e ∙ sym (more_at s z (b ∷ bs) (omega arith)) ∙ h)
+no_more s z (b ∷ bs) fs e h = absurd (none-some fs (ap after_step e ∙ sym (more_at s z (b ∷ bs) (omega arith)) ∙ h))
 
 -- no field is taken where fields go to the end: none is left
 pub left_end : (q : State) (fs : List Piece) → None ≡ step q → left q ≡ Some fs → fs ≡ []

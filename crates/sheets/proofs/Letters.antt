@@ -4,7 +4,7 @@ use Rattle.std.proofs.lemmas.Bool.{eqb-true, cases_Bool}
 use Rattle.sheets.specs.declared.field.Kind.{Kind}
 use Rattle.sheets.specs.declared.field.Kind.TheVariants.{Directory, Accounts, Labels, Strike, Restore, Place}
 use Rattle.sheets.specs.Fields.{letter, kind}
-use Rattle.sheets.proofs.Options.{none_some, some_same}
+use Rattle.std.proofs.lemmas.Option.{same_Some, none-some}
 
 pub letter_kind : (k : Kind) → kind (letter k) ≡ Some k
 letter_kind Directory = refl
@@ -18,7 +18,7 @@ letter_kind Place = refl
 pick : (t : ℕ) (k j : Kind) (o : Option Kind) → cond (eqb t (letter j)) (Some j) o ≡ Some k → (letter k ≡ t) ⊎ (o ≡ Some k)
 pick t k j o e =
     ⊎_elim
-    (λ y. inl (ap letter (sym (some_same j k (ap (λ b. cond b (Some j) o) (sym y) ∙ e))) ∙ sym (eqb-true t (letter j) y)))
+    (λ y. inl (ap letter (sym (same_Some j k (ap (λ b. cond b (Some j) o) (sym y) ∙ e))) ∙ sym (eqb-true t (letter j) y)))
     (λ n. inr (ap (λ b. cond b (Some j) o) (sym n) ∙ e))
     (cases_Bool (eqb t (letter j)))
 
@@ -29,5 +29,5 @@ kind_letter t k e =
     ⊎_elim (λ h. h) (λ e3.
     ⊎_elim (λ h. h) (λ e4.
     ⊎_elim (λ h. h) (λ e5.
-    ⊎_elim (λ h. h) (λ e6. none_some k e6)
+    ⊎_elim (λ h. h) (λ e6. absurd (none-some k e6))
     (pick t k Place None e5)) (pick t k Restore _ e4)) (pick t k Strike _ e3)) (pick t k Labels _ e2)) (pick t k Accounts _ e1)) (pick t k Directory _ e)

@@ -1,10 +1,10 @@
 pub mod Keys
 pub mod Left
 pub mod Letters
-pub mod Numbers
 pub mod Options
 pub mod Readings
 pub mod Requests
 pub mod Spelled
 pub mod Stages
 pub mod Steps
+pub mod Turns

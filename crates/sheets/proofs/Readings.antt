@@ -13,7 +13,8 @@ use Rattle.sheets.specs.Fields.{Piece, piece, told}
 use Rattle.sheets.specs.Grammar.{is, when, bind, next, State, state, Step, opened, step, ended, left, fields, Said, said, sheet, column_of, col, viewed}
 use Rattle.sheets.specs.Written.{Chooses, by_full, by_level, by_none, Holds, accounts, labels, listed, WrittenAs}
 use Rattle.sheets.proofs.Left.{left_step, left_stop}
-use Rattle.sheets.proofs.Options.{none_some, some_same, none_tested, some_tested}
+use Rattle.std.proofs.lemmas.Option.{same_Some, none-some}
+use Rattle.sheets.proofs.Options.{none_tested, some_tested}
 use Rattle.sheets.proofs.Spelled.{Bytes, spells_read, spelled}
 use Rattle.sheets.proofs.Stages.{chooses, holds}
 use Rattle.sheets.proofs.Steps.{taken}
@@ -51,11 +52,11 @@ holds_column _ _ _ f (labels n e) = refl
 
 told_directory : (f : Field) → (told f).kind ≡ Directory → (p : Part) × (f ≡ field.Directory p)
 told_directory (field.Directory p) e = (p, refl)
-told_directory (field.Accounts p) e = let z : ◌≡◌ {A = ℕ} 0 1 = cc in absurd (omega arith)
-told_directory (field.Labels p) e = let z : ◌≡◌ {A = ℕ} 0 1 = cc in absurd (omega arith)
-told_directory (field.Strike p) e = let z : ◌≡◌ {A = ℕ} 0 1 = cc in absurd (omega arith)
-told_directory (field.Restore p) e = let z : ◌≡◌ {A = ℕ} 0 1 = cc in absurd (omega arith)
-told_directory (field.Place p) e = let z : ◌≡◌ {A = ℕ} 0 1 = cc in absurd (omega arith)
+told_directory (field.Accounts p) e = absurd cc
+told_directory (field.Labels p) e = absurd cc
+told_directory (field.Strike p) e = absurd cc
+told_directory (field.Restore p) e = absurd cc
+told_directory (field.Place p) e = absurd cc
 
 -- two fields before the rest
 before : (d c : Piece) (o : Option (List Piece)) → bind (bind o (λ fs. Some (c ∷ fs))) (λ fs. Some (d ∷ fs)) ≡ bind o (λ fs. Some (d ∷ c ∷ fs))
@@ -100,7 +101,7 @@ module _ (bs : List ℕ) (small : length bs ≤ 65536) (q : State) (start : q �
           holds_column h.0 u.read.kind u.read.value u.read h.1
 
       pub no_column : None ≡ column_of u.read → fields bs ≡ None
-      no_column e = none_some u.read (e ∙ columns)
+      no_column e = absurd (none-some u.read (e ∙ columns))
 
       fields_last : fields bs ≡ bind (left u.then) (λ fs. Some (t.read ∷ u.read ∷ fs))
       fields_last =
@@ -115,7 +116,7 @@ module _ (bs : List ℕ) (small : length bs ≤ 65536) (q : State) (start : q �
       pub all : (r : Sheet) → Bytes bs → piece Directory r.directory ≡ t.read → Some (col r.column) ≡ column_of u.read → state r.calls ≡ u.then → true ≡ is_some (left u.then) → Owed bs (Some r)
       all r w d c calls e =
           let rest = some_tested (left u.then) e in
-          let same : col r.column ≡ u.read = some_same _ _ (c ∙ columns) in
+          let same : col r.column ≡ u.read = same_Some _ _ (c ∙ columns) in
           some bs r (record { directory = t.read; column = u.read; calls = rest.0 }) w
           ((λ i. bind (left (calls i)) (λ fs. Some (record { directory = d i; column = same i; calls = fs }))) ∙ ap (λ o. bind o (λ fs. Some (record { directory = t.read; column = u.read; calls = fs }))) rest.1)
           (fields_last ∙ ap (λ o. bind o (λ fs. Some (t.read ∷ u.read ∷ fs))) rest.1)

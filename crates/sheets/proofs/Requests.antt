@@ -1,57 +1,28 @@
 -- What a sheet asks, taken from its fields one by one.
-use Rattle.std.proofs.Common.{◌≡◌, ℕ, suc, ◌-◌, ◌<◌, List, [], ◌∷◌, ◌++◌, length, get_or, take, drop, Some, None, Option, sym, refl, ap, ◌∙◌, append_assoc, append-nil, arith}
-use Rattle.std.proofs.lemmas.List.{take_all}
+use Rattle.std.proofs.Common.{◌≡◌, ℕ, suc, List, [], ◌∷◌, length, Some, refl, ap, ◌∙◌}
+use Rattle.std.specs.List.{cons_option}
 use Rattle.std.specs.Option.{option_map}
 use Rattle.std.specs.Int.Digits.{number_from_digits}
 use Rattle.std.proofs.lemmas.Bool.{eq-eqb}
-use Rattle.indexes.specs.declared.index.Side.{Side}
 use Rattle.indexes.specs.declared.index.Side.TheVariants.{At, After}
 use Rattle.sheets.specs.declared.field.Kind.{Kind}
 use Rattle.sheets.specs.declared.request.Request.{Request}
 use Rattle.sheets.specs.declared.request.Request.TheVariants as request
 use Rattle.sheets.specs.declared.sheet.Sheet.{Sheet}
 use Rattle.sheets.specs.Fields.{Piece}
-use Rattle.sheets.specs.Grammar.{when, Said, State, Step, state, step, left, viewed}
-use Rattle.sheets.specs.Said.{key_of, place_of, request_as, request_of, put_first, requests_of}
+use Rattle.sheets.specs.Grammar.{when, Said, state, left, viewed}
+use Rattle.sheets.specs.Said.{request_as, requests_of}
 use Rattle.sheets.specs.Written.{Calls, strikes, restores, seeks_at, seeks_after, CallsOver}
-use Rattle.sheets.proofs.Left.{left_step, left_end}
-use Rattle.sheets.proofs.Options.{some_same, bind_parts}
+use Rattle.std.proofs.lemmas.Option.{same_Some}
+use Rattle.sheets.proofs.Options.{bind_parts}
+
+-- the calls of a sheet are those from its reader on
+pub calls_left : (sheet : Sheet) (s : Said) → viewed sheet ≡ Some s → left (state sheet.calls) ≡ Some s.calls
+calls_left sheet s e =
+    let p = bind_parts (left (state sheet.calls)) _ s e in
+    p.1 ∙ ap (λ (t : Said). Some t.calls) (same_Some _ s p.2)
 
 module _ {K : Type 0} (w : ℕ) (spelled : List ℕ → K) where
-  -- a side's letter, and a key behind it
-  pub sought : (side : Side) (letter : ℕ) → ((key : List ℕ) → place_of w spelled (letter ∷ key) ≡ option_map (request.Place side) (key_of w spelled key))
-      → (v : List ℕ) (k : K) → 0 < length v → get_or v 0 0 ≡ letter → Some k ≡ key_of w spelled (take (length v - 1) (drop 1 v)) → Some (request.Place side k) ≡ place_of w spelled v
-  sought side letter is [] k some e at = absurd (omega arith)
-  sought side letter is (a ∷ key) k some e at =
-      ap (option_map (request.Place side)) (at ∙ ap (key_of w spelled) (take_all _ key (omega arith)))
-      ∙ sym (is key) ∙ ap (λ x. place_of w spelled (x ∷ key)) (sym e)
-
-  -- `out` is what was asked up to where the reader stands
-  abbrev pub Asked : Sheet → List (Request K) → State → Type 0
-  Asked sheet out q = (s : Said) → viewed sheet ≡ Some s → (fs : List Piece) × (left q ≡ Some fs) × (out ++ requests_of w spelled fs ≡ requests_of w spelled s.calls)
-
-  pub asked_none : (sheet : Sheet) → Asked sheet [] (state sheet.calls)
-  asked_none sheet s e =
-      let p = bind_parts (left (state sheet.calls)) _ s e in
-      (p.0, p.1, ap (λ (t : Said). requests_of w spelled t.calls) (some_same _ s p.2))
-
-  one_more : (out : List (Request K)) (o : Option (Request K)) (rest : List (Request K)) → (out ++ put_first o []) ++ rest ≡ out ++ put_first o rest
-  one_more out None rest = ap (λ l. l ++ rest) (append-nil out)
-  one_more out (Some r) rest = append_assoc out (r ∷ []) rest
-
-  pub asked_more : (sheet : Sheet) (out out' : List (Request K)) (q : State) (t : Step) → Asked sheet out q → Some t ≡ step q → out' ≡ out ++ put_first (request_of w spelled t.read) [] → Asked sheet out' t.then
-  asked_more sheet out out' q t asked e is s says =
-      let h = asked s says in
-      let p = bind_parts (left t.then) _ h.0 (sym (left_step q t e) ∙ h.1) in
-      let fs : t.read ∷ p.0 ≡ h.0 = some_same _ _ p.2 in
-      (p.0, p.1, ap (λ l. l ++ requests_of w spelled p.0) is ∙ one_more out (request_of w spelled t.read) (requests_of w spelled p.0) ∙ ap (λ l. out ++ requests_of w spelled l) fs ∙ h.2)
-
-  pub asked_all : (sheet : Sheet) (out : List (Request K)) (q : State) → Asked sheet out q → None ≡ step q → (s : Said) → viewed sheet ≡ Some s → out ≡ requests_of w spelled s.calls
-  asked_all sheet out q asked e s says =
-      let h = asked s says in
-      let none = left_end q h.0 e h.1 in
-      sym (append-nil out) ∙ ap (λ l. out ++ requests_of w spelled l) (sym none) ∙ h.2
-
   -- a call over keys of this width asks one thing
   asks : (k : Kind) (v : List ℕ) → Calls w k v → (r : Request K) × (request_as w spelled k v ≡ Some r)
   asks _ v (strikes e) = (request.Strike (number_from_digits 256 v), ap (λ b. option_map request.Strike (when b (number_from_digits 256 v))) (eq-eqb (length v) 4 e))
@@ -63,4 +34,4 @@ module _ {K : Type 0} (w : ℕ) (spelled : List ℕ → K) where
   asks_each [] all = refl
   asks_each (f ∷ fs) all =
       let a = asks f.kind f.value all.0 in
-      ap (λ o. length (put_first o (requests_of w spelled fs))) a.1 ∙ ap suc (asks_each fs all.1)
+      ap (λ o. length (cons_option o (requests_of w spelled fs))) a.1 ∙ ap suc (asks_each fs all.1)

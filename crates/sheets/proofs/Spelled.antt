@@ -7,23 +7,25 @@ use Rattle.std.proofs.lemmas.Bool.{le-leb, leb-true}
 use Rattle.sheets.specs.declared.reader.Stage.{Stage}
 use Rattle.sheets.specs.declared.reader.Stage.TheVariants as stage
 use Rattle.sheets.specs.Fields.{letter, Piece}
-use Rattle.sheets.specs.Grammar.{step_at, bind, Step, pieces, fields}
+use Rattle.sheets.specs.Grammar.{next, step_at, value_step, bind, Step, pieces, fields}
 use Rattle.sheets.specs.Written.{framed, Placed, Within, Spells, Spelled}
 use Rattle.sheets.proofs.Letters.{letter_kind, kind_letter}
 use Rattle.sheets.proofs.Left.{ended_nil}
-use Rattle.sheets.proofs.Options.{none_some, some_same, bind_parts, when_parts}
+use Rattle.std.proofs.lemmas.Option.{same_Some, none-some}
+use Rattle.sheets.proofs.Options.{bind_parts, when_parts}
 use Rattle.sheets.proofs.Stages.{Runs, ordered_runs, runs_ordered}
-use Rattle.sheets.proofs.Steps.{Front, admitted, Taken, taken}
+use Rattle.sheets.proofs.Steps.{Taken, taken}
 
-front : (f : Piece) (rest : List ℕ) → Front (framed f ++ rest) f.kind (length f.value) f.value rest
-front f rest = record {
-  long = omega arith;
-  size = sym (div-add-mod' (length f.value) 256);
-  fits = omega (arith, length-append f.value rest);
-  named = letter_kind f.kind;
-  value = sym (take_at f.value rest _ refl);
-  back = sym (drop_at f.value rest _ refl);
-}
+-- a field in its bytes, where it is allowed
+framed_step : (s s' : Stage) (z : ℕ) (f : Piece) (rest : List ℕ) → next s f.kind f.value ≡ Some s' → f.place ≡ z - length (f.value ++ rest) → step_at s z (framed f ++ rest) ≡ Some (record {
+  read = f;
+  then = record { stage = s'; whole = z; rest = rest };
+})
+framed_step s s' z f rest allowed at =
+    let v = f.value in
+    let fits : length v ≤ length (v ++ rest) = omega (arith, length-append v rest) in
+    ap (λ n. value_step s z (letter f.kind) n (v ++ rest)) (div-add-mod' (length v) 256)
+    ∙ rw (le-leb (length v) (length (v ++ rest)) fits, letter_kind f.kind, take_at v rest _ refl, drop_at v rest _ refl, allowed, ← at)
 
 wrote : (fs : List Piece) (s : Stage) (p z n : ℕ) → Runs s fs → Placed p fs → p + length (flat_map framed fs) ≡ z → length (flat_map framed fs) ≤ n → pieces n s z (flat_map framed fs) ≡ Some fs
 wrote [] s p z n r at sum l = r
@@ -32,8 +34,7 @@ wrote (f ∷ fs) s p z (suc n) r at sum l =
     let rest = flat_map framed fs in
     let long = length-append f.value rest in
     let here : f.place ≡ z - length (f.value ++ rest) = (let a = at.0 in omega arith) in
-    let one = admitted s z (front f rest) r.0 z f.place f (sym r.1) refl refl here in
-    ap (λ o. bind o (λ (t : Step). bind (pieces n t.then.stage t.then.whole t.then.rest) (λ gs. Some (t.read ∷ gs)))) (sym one)
+    ap (λ o. bind o (λ (t : Step). bind (pieces n t.then.stage t.then.whole t.then.rest) (λ gs. Some (t.read ∷ gs)))) (framed_step s r.0 z f rest r.1 here)
     ∙ ap (λ o. bind o (λ gs. Some (f ∷ gs))) (wrote fs r.0 (p + 3 + length f.value) z n r.2 at.1 (omega arith) (omega arith))
 
 -- what the bytes spell is read, so they spell it alone
@@ -75,7 +76,7 @@ read_back : (n : ℕ) (s : Stage) (p z : ℕ) (bs : List ℕ) (fs : List Piece) 
 read_back n s p z [] fs w sum e =
     let none = ended_nil s fs e in
     subst (Stand s p []) (sym none) (record { runs = e ∙ ap Some none; placed = tt; bytes = refl })
-read_back zero s p z (b ∷ bs) fs w sum e = none_some fs e
+read_back zero s p z (b ∷ bs) fs w sum e = absurd (none-some fs e)
 read_back (suc n) s p z (b ∷ bs) fs w sum e =
     let x = bind_parts (step_at s z (b ∷ bs)) _ fs e in
     let t : Step = x.0 in
@@ -89,7 +90,7 @@ read_back (suc n) s p z (b ∷ bs) fs w sum e =
     let whole = g.whole in
     let at = g.at in
     let r = read_back n t.then.stage (p + 3 + length v) t.then.whole rest y.0 (bytes_back (framed t.read) rest (subst Bytes (sym all) w)) (omega arith) y.1 in
-    subst (Stand s p (b ∷ bs)) (some_same _ _ y.2) (record {
+    subst (Stand s p (b ∷ bs)) (same_Some _ _ y.2) (record {
       runs = (t.then.stage, g.allowed, r.runs);
       placed = (omega arith, r.placed);
       bytes = ap (λ l. framed t.read ++ l) r.bytes ∙ all;
@@ -131,5 +132,5 @@ spelled bs fs w e =
     record {
       spells = h;
       within = subst (λ (l : List ℕ). AllByRecursion (Within l) fs) h.bytes (places [] fs h.placed);
-      alone = λ gs k. some_same gs fs (sym (spells_read bs gs k) ∙ e);
+      alone = λ gs k. same_Some gs fs (sym (spells_read bs gs k) ∙ e);
     }

@@ -1,5 +1,5 @@
 -- The stages let pass exactly a directory, then a column, then calls over its keys. Assumes nothing.
-use Rattle.std.proofs.Common.{◌≡◌, ℕ, ◌/◌, ◌%◌, Bool, true, eqb, List, [], ◌∷◌, length, Some, sym, refl, ap, ◌∙◌, subst, ⊎_elim, arith}
+use Rattle.std.proofs.Common.{◌≡◌, ℕ, ◌/◌, ◌%◌, true, eqb, List, [], ◌∷◌, length, Some, sym, refl, ap, ◌∙◌, subst, ⊎_elim, arith}
 use Rattle.std.specs.List.{AllByRecursion}
 use Rattle.std.proofs.lemmas.Bool.{eq-eqb, eqb-true, cases_Bool}
 use Rattle.std.proofs.lemmas.Bool.Decides.{nat_tests}
@@ -10,7 +10,7 @@ use Rattle.sheets.specs.declared.reader.Stage.TheVariants as stage
 use Rattle.sheets.specs.Fields.{full, level, bare, at, after, choice, keys, row, sought, Piece}
 use Rattle.sheets.specs.Grammar.{when, call, next, ended}
 use Rattle.sheets.specs.Written.{Chooses, by_full, by_level, by_none, Holds, accounts, labels, Calls, strikes, restores, seeks_at, seeks_after, Ordered}
-use Rattle.sheets.proofs.Options.{none_some, some_same, when_parts}
+use Rattle.std.proofs.lemmas.Option.{cond_some, none-some}
 
 -- fields may stand from a stage on to the end
 abbrev pub Runs : Stage → List Piece → Type 0
@@ -37,10 +37,6 @@ called s w _ v (restores e) = ap (λ b. when b s) (eq-eqb (length v) 4 e)
 called s w _ (_ ∷ key) (seeks_at e) = ap (λ b. when b s) (eq-eqb (length key) w e)
 called s w _ (_ ∷ key) (seeks_after e) = ap (λ b. when b s) (eq-eqb (length key) w e)
 
--- the test t was true, and gave the stage that it guards
-guarded : (t : Bool) (s s' : Stage) → when t s ≡ Some s' → (t ≡ true) × (s ≡ s')
-guarded t s s' e = let w = when_parts t (Some s) s' e in (w.0, some_same s s' w.1)
-
 chooses_pair : (a m : ℕ) → choice (a ∷ m ∷ []) ≡ true → Chooses Directory (a ∷ m ∷ [])
 chooses_pair a m e =
     ⊎_elim
@@ -63,26 +59,26 @@ chooses_value (a ∷ m ∷ []) e = chooses_pair a m e
 chooses_value (a ∷ m ∷ b ∷ bs) e = absurd (grind (arith, nat_tests))
 
 pub chooses : (k : Kind) (v : List ℕ) (s : Stage) → next stage.Start k v ≡ Some s → Chooses k v × (stage.Chosen ≡ s)
-chooses Directory v s e = let g = guarded (choice v) stage.Chosen s e in (chooses_value v g.0, g.1)
-chooses Accounts v s e = none_some s e
-chooses Labels v s e = none_some s e
-chooses Strike v s e = none_some s e
-chooses Restore v s e = none_some s e
-chooses Place v s e = none_some s e
+chooses Directory v s e = let g = cond_some (choice v) stage.Chosen s e in (chooses_value v g.0, g.1)
+chooses Accounts v s e = absurd (none-some s e)
+chooses Labels v s e = absurd (none-some s e)
+chooses Strike v s e = absurd (none-some s e)
+chooses Restore v s e = absurd (none-some s e)
+chooses Place v s e = absurd (none-some s e)
 
 pub holds : (k : Kind) (v : List ℕ) (s : Stage) → next stage.Chosen k v ≡ Some s → (w : ℕ) × Holds w k v × Over w s
-holds Directory v s e = none_some s e
+holds Directory v s e = absurd (none-some s e)
 holds Accounts v s e =
-    let g = guarded (keys 4 v) stage.Accounts s e in
+    let g = cond_some (keys 4 v) stage.Accounts s e in
     let z = eqb-true (length v % 4) 0 g.0 in
     (4, accounts (length v / 4) (omega arith), subst (Over 4) g.1 over_accounts)
 holds Labels v s e =
-    let g = guarded (keys 16 v) stage.Labels s e in
+    let g = cond_some (keys 16 v) stage.Labels s e in
     let z = eqb-true (length v % 16) 0 g.0 in
     (16, labels (length v / 16) (omega arith), subst (Over 16) g.1 over_labels)
-holds Strike v s e = none_some s e
-holds Restore v s e = none_some s e
-holds Place v s e = none_some s e
+holds Strike v s e = absurd (none-some s e)
+holds Restore v s e = absurd (none-some s e)
+holds Place v s e = absurd (none-some s e)
 
 seeks : (w : ℕ) (v : List ℕ) → sought w v ≡ true → Calls w Place v
 seeks w [] e = absurd (grind (arith, nat_tests))
@@ -100,12 +96,12 @@ seeks w (a ∷ key) e =
     (cases_Bool (eqb a at))
 
 calls : (s : Stage) (w : ℕ) (k : Kind) (v : List ℕ) (s' : Stage) → call s w k v ≡ Some s' → Calls w k v × (s ≡ s')
-calls s w Directory v s' e = none_some s' e
-calls s w Accounts v s' e = none_some s' e
-calls s w Labels v s' e = none_some s' e
-calls s w Strike v s' e = let g = guarded (row v) s s' e in (strikes (eqb-true (length v) 4 g.0), g.1)
-calls s w Restore v s' e = let g = guarded (row v) s s' e in (restores (eqb-true (length v) 4 g.0), g.1)
-calls s w Place v s' e = let g = guarded (sought w v) s s' e in (seeks w v g.0, g.1)
+calls s w Directory v s' e = absurd (none-some s' e)
+calls s w Accounts v s' e = absurd (none-some s' e)
+calls s w Labels v s' e = absurd (none-some s' e)
+calls s w Strike v s' e = let g = cond_some (row v) s s' e in (strikes (eqb-true (length v) 4 g.0), g.1)
+calls s w Restore v s' e = let g = cond_some (row v) s s' e in (restores (eqb-true (length v) 4 g.0), g.1)
+calls s w Place v s' e = let g = cond_some (sought w v) s s' e in (seeks w v g.0, g.1)
 
 over_next : {w : ℕ} {s : Stage} → Over w s → (k : Kind) (v : List ℕ) → next s k v ≡ call s w k v
 over_next over_accounts k v = refl
@@ -133,13 +129,13 @@ ordered_runs (d ∷ c ∷ fs) h =
     (stage.Chosen, chosen d.kind d.value h.0, (k.0, k.1, calls_run k.2 fs h.1.2))
 
 pub runs_ordered : (fs : List Piece) → Runs stage.Start fs → Ordered fs
-runs_ordered [] r = none_some [] r
+runs_ordered [] r = absurd (none-some [] r)
 runs_ordered (d ∷ fs) r =
     let k = chooses d.kind d.value r.0 r.1 in
     runs_column d fs k.0 (subst (λ (q : Stage). Runs q fs) (sym k.1) r.2)
   where
     runs_column : (d : Piece) (fs : List Piece) → Chooses d.kind d.value → Runs stage.Chosen fs → Ordered (d ∷ fs)
-    runs_column d [] h r = none_some [] r
+    runs_column d [] h r = absurd (none-some [] r)
     runs_column d (c ∷ fs) h r =
         let k = holds c.kind c.value r.0 r.1 in
         (h, (k.0, k.1, run_calls k.2 fs r.2))

@@ -1,6 +1,7 @@
 -- The grammar: which field may come next, the fields of the bytes that are left, and the sheet that bytes are. Assumes nothing.
-use Rattle.std.specs.Prelude.{ℕ, zero, suc, ◌+◌, ◌-◌, ◌*◌, Bool, cond, List, [], ◌∷◌, length, take, drop, Some, None, Option, ◌==◌, nat_le}
+use Rattle.std.specs.Prelude.{◌≡◌, ℕ, zero, suc, ◌+◌, ◌-◌, ◌*◌, Bool, cond, List, [], ◌∷◌, length, take, drop, Some, None, Option, ◌==◌, nat_le}
 use Rattle.std.specs.Option.{option_map, unwrap_or}
+use Rattle.sheets.specs.declared.field.Field.{Field}
 use Rattle.sheets.specs.declared.field.Kind.{Kind}
 use Rattle.sheets.specs.declared.field.Kind.TheVariants.{Directory, Accounts, Labels, Strike, Restore, Place}
 use Rattle.sheets.specs.declared.reader.Reader.{Reader}
@@ -9,7 +10,7 @@ use Rattle.sheets.specs.declared.reader.Stage.TheVariants as stage
 use Rattle.sheets.specs.declared.sheet.Column.{Column}
 use Rattle.sheets.specs.declared.sheet.Column.TheVariants as column
 use Rattle.sheets.specs.declared.sheet.Sheet.{Sheet}
-use Rattle.sheets.specs.Fields.{letter, kind, choice, keys, row, sought, Piece, piece}
+use Rattle.sheets.specs.Fields.{letter, kind, choice, keys, row, sought, Piece, piece, told}
 
 abbrev pub when : {A : Type 0} → Bool → A → Option A
 when b a = cond b (Some a) None
@@ -33,10 +34,6 @@ next stage.Chosen k v =
     cond (is k Accounts) (when (keys 4 v) stage.Accounts) (cond (is k Labels) (when (keys 16 v) stage.Labels) None)
 next stage.Accounts k v = call stage.Accounts 4 k v
 next stage.Labels k v = call stage.Labels 16 k v
-
--- the stage after a field, or the same where it is not allowed
-abbrev pub moved : Stage → Kind → List ℕ → Stage
-moved s k v = unwrap_or (next s k v) s
 
 -- a sheet may end once its column is read
 abbrev pub ended : Stage → Option (List Piece)
@@ -90,6 +87,11 @@ front q = option_map (λ t. t.read) (step q)
 -- where the reader stands after it, or still where there is none
 abbrev pub onward : State → State
 onward q = unwrap_or (option_map (λ t. t.then) (step q)) q
+
+-- what a reader that is asked for a field gives, and where it stands then
+pub record Reads (r : Reader) (f : Option Field) (r' : Reader) : Type 0 where
+  pub field : option_map told f ≡ front (state r)
+  pub reader : state r' ≡ onward (state r)
 
 -- a field has three bytes at least, so as many fields as there are bytes are enough
 abbrev pub pieces : ℕ → Stage → ℕ → List ℕ → Option (List Piece)

@@ -1,6 +1,7 @@
 -- What a sheet says: the layout that is asked for, the column's keys, and the calls. Assumes nothing.
-use Rattle.std.specs.Prelude.{ℕ, zero, suc, ◌/◌, cond, List, [], ◌∷◌, length, take, drop, Some, None, Option, ◌==◌}
+use Rattle.std.specs.Prelude.{ℕ, zero, suc, ◌/◌, cond, List, [], ◌∷◌, length, take, drop, None, Option, ◌==◌}
 use Rattle.std.specs.Int.Digits.{number_from_digits}
+use Rattle.std.specs.List.{filter_map}
 use Rattle.std.specs.Option.{option_map}
 use Rattle.keys.specs.declared.account.Account.{Account}
 use Rattle.keys.specs.declared.label.Label.{Label}
@@ -64,11 +65,6 @@ request_as w spelled Place v = place_of w spelled v
 abbrev pub request_of : {K : Type 0} → ℕ → (List ℕ → K) → Piece → Option (Request K)
 request_of w spelled f = request_as w spelled f.kind f.value
 
-abbrev pub put_first : {A : Type 0} → Option A → List A → List A
-put_first None xs = xs
-put_first (Some x) xs = x ∷ xs
-
 -- what fields ask, in their order
 abbrev pub requests_of : {K : Type 0} → ℕ → (List ℕ → K) → List Piece → List (Request K)
-requests_of w spelled [] = []
-requests_of w spelled (f ∷ fs) = put_first (request_of w spelled f) (requests_of w spelled fs)
+requests_of w spelled fs = filter_map (request_of w spelled) fs

@@ -2,7 +2,7 @@
 ghost use Rattle.std.specs.Prelude.{◌≡◌};
 ghost use Rattle.sheets.specs.Fields.{kind, piece, told};
 
-#[derive(Clone, Copy)]
+#[derive(Clone, Copy, PartialEq, Eq, Debug)]
 pub enum Kind {
     Directory,
     Accounts,
@@ -13,14 +13,14 @@ pub enum Kind {
 }
 
 // Bytes of the sheet, and the place of the first.
-#[derive(Clone, Copy)]
+#[derive(Clone, Copy, PartialEq, Eq, Debug)]
 pub struct Part<'a> {
     pub place: usize,
     pub bytes: &'a [u8],
 }
 
 // A field, with its value.
-#[derive(Clone, Copy)]
+#[derive(Clone, Copy, PartialEq, Eq, Debug)]
 pub enum Field<'a> {
     Directory(Part<'a>),
     Accounts(Part<'a>),
@@ -31,7 +31,7 @@ pub enum Field<'a> {
 }
 
 impl Kind {
-    // The kind that a tag names.
+    // The kind that a tag names. An Option says as much as a TryFrom: there is one way to fail.
     pub(crate) fn of(tag: char) -> Option<Kind>
         ensures { result ≡ kind tag }
     {
@@ -48,6 +48,7 @@ impl Kind {
 }
 
 impl<'a> Field<'a> {
+    // A case for each kind, since the cases of a field are what callers match: a From of the pair has the same arms.
     pub(crate) fn of(kind: Kind, part: Part<'a>) -> Field<'a>
         ensures { told result ≡ piece kind part.entry }
     {

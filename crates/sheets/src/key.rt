@@ -51,12 +51,9 @@ impl SheetKey for Label {
     }
 
     fn read(bytes: &[u8]) -> Option<Label> {
-        if bytes.len() != 16 {
-            return None;
-        }
-        let mut label = [0; 16];
-        label.copy_from_slice(bytes);
-        Some(Label { bytes: label })
+        Some(Label {
+            bytes: bytes.try_into().ok()?,
+        })
     }
 }
 
@@ -65,16 +62,9 @@ impl<'a> Part<'a> {
     pub fn keys<K: SheetKey>(&self, heap: Global) -> Result<Vec<K>, AllocError>
         ensures { IfOk result (λ v. v.items ≡ keys_of K.SheetKey.width K.SheetKey.spelled self.now.bytes.now) }
     {
-        let width = K::width();
-        let mut keys = Vec::new(heap);
-        let mut rest = self.bytes;
-        while rest.len() >= width {
-            let (front, after) = rest.split_at(width);
-            if let Some(key) = K::read(front) {
-                keys.push(key)?;
-            }
-            rest = after;
-        }
-        Ok(keys)
+        self.bytes
+            .chunks_exact(K::width())
+            .filter_map(|bytes| K::read(bytes))
+            .collect(heap)
     }
 }

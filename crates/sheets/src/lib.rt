@@ -2,7 +2,7 @@
 //
 // - `Sheet` is a sheet that was read: its directory, its `Column`, and a reader that stands at its first call.
 // - `Field` is one field of a sheet, and `Part` the bytes of its value with their place in the sheet.
-// - `Reader` hands on the fields one by one; it is copied to read the calls again.
+// - `Reader` is an iterator over the fields; it is copied to read the calls again.
 // - `SheetKey` is a kind of key that a sheet can hold, and `Request` is what a call of it asks.
 //
 // `Sheet::read` decides on the whole sheet before anything in it is tried, and allocates nothing. It promises the sheet

@@ -1,14 +1,13 @@
 // The reader of a sheet: its fields, one after the other.
-ghost use Rattle.std.specs.Prelude.{◌≡◌, ◌-◌, length, is_some, ◌==◌};
-ghost use Rattle.std.specs.Option.{option_map};
-ghost use Rattle.sheets.specs.Fields.{told};
-ghost use Rattle.sheets.specs.Grammar.{next, moved, state, opened, front, onward, ended, left};
+ghost use Rattle.std.specs.Prelude.{◌≡◌, length, is_some, ◌==◌};
+ghost use Rattle.std.specs.Iterator.{at_most};
+ghost use Rattle.sheets.specs.Grammar.{next, state, opened, Reads, ended, left};
 
 use crate::field::{Field, Kind, Part};
-use crate::value::{big_endian, is_choice, is_sought};
+use crate::value::{is_choice, is_sought};
 
 // What was read before, on which it depends which field may come next.
-#[derive(Clone, Copy)]
+#[derive(Clone, Copy, PartialEq, Eq, Debug)]
 pub(crate) enum Stage {
     Start,
     Chosen,
@@ -16,8 +15,27 @@ pub(crate) enum Stage {
     Labels,
 }
 
+impl Stage {
+    // The stage that follows, if a field of this kind and value is allowed now.
+    fn next(self, kind: Kind, value: &[u8]) -> Option<Stage>
+        ensures { result ≡ next self kind value.now }
+    {
+        match (self, kind) {
+            (Stage::Start, Kind::Directory) if is_choice(value) => Some(Stage::Chosen),
+            (Stage::Chosen, Kind::Accounts) if value.len() % 4 == 0 => Some(Stage::Accounts),
+            (Stage::Chosen, Kind::Labels) if value.len() % 16 == 0 => Some(Stage::Labels),
+            (Stage::Accounts | Stage::Labels, Kind::Strike | Kind::Restore) if value.len() == 4 => {
+                Some(self)
+            }
+            (Stage::Accounts, Kind::Place) if is_sought(value, 4) => Some(self),
+            (Stage::Labels, Kind::Place) if is_sought(value, 16) => Some(self),
+            _ => None,
+        }
+    }
+}
+
 // Of a sheet of `whole` bytes, `rest` is left.
-#[derive(Clone, Copy)]
+#[derive(Clone, Copy, PartialEq, Eq, Debug)]
 pub struct Reader<'a> {
     stage: Stage,
     whole: usize,
@@ -35,67 +53,6 @@ impl<'a> Reader<'a> {
         }
     }
 
-    // Moves to the stage that follows where a field of this kind and value is allowed now.
-    fn admit(&mut self, kind: Kind, value: &[u8]) -> bool
-        ensures allowed { result ≡ is_some (next self.old.stage kind value.now) }
-        ensures stage { self.new.stage ≡ moved self.old.stage kind value.now }
-        ensures whole { self.new.whole ≡ self.old.whole }
-        ensures rest { self.new.rest ≡ self.old.rest }
-    {
-        match (self.stage, kind) {
-            (Stage::Start, Kind::Directory) if is_choice(value) => {
-                self.stage = Stage::Chosen;
-                true
-            }
-            (Stage::Chosen, Kind::Accounts) if value.len() % 4 == 0 => {
-                self.stage = Stage::Accounts;
-                true
-            }
-            (Stage::Chosen, Kind::Labels) if value.len() % 16 == 0 => {
-                self.stage = Stage::Labels;
-                true
-            }
-            (Stage::Accounts | Stage::Labels, Kind::Strike | Kind::Restore) => value.len() == 4,
-            (Stage::Accounts, Kind::Place) => is_sought(value, 4),
-            (Stage::Labels, Kind::Place) => is_sought(value, 16),
-            _ => false,
-        }
-    }
-
-    // The place of bytes that go on to the end of the sheet.
-    fn place(&self, after: &[u8]) -> usize
-        ensures { result ≡ self.now.whole - length after.now }
-    {
-        self.whole.saturating_sub(after.len())
-    }
-
-    // The next field, if there is one that is allowed here; else the reader stays where it is.
-    pub fn field(&mut self) -> Option<Field<'a>>
-        ensures field { option_map told result ≡ front (state self.old) }
-        ensures reader { state self.new ≡ onward (state self.old) }
-    {
-        let [tag, hi, lo, after @ ..] = self.rest else {
-            return None;
-        };
-        let size = big_endian(*hi, *lo);
-        if size > after.len() {
-            return None;
-        }
-        let kind = Kind::of(char::from(*tag))?;
-        let (value, rest) = after.split_at(size);
-        if !self.admit(kind, value) {
-            return None;
-        }
-        self.rest = rest;
-        Some(Field::of(
-            kind,
-            Part {
-                place: self.place(after),
-                bytes: value,
-            },
-        ))
-    }
-
     // Whether nothing is left.
     pub fn is_done(&self) -> bool
         ensures { result ≡ (length (state self.now).rest == 0) }
@@ -107,10 +64,7 @@ impl<'a> Reader<'a> {
     pub fn may_end(&self) -> bool
         ensures { result ≡ is_some (ended (state self.now).stage) }
     {
-        match self.stage {
-            Stage::Start | Stage::Chosen => false,
-            Stage::Accounts | Stage::Labels => true,
-        }
+        matches!(self.stage, Stage::Accounts | Stage::Labels)
     }
 
     // Whether what is left is fields to the end.
@@ -118,11 +72,37 @@ impl<'a> Reader<'a> {
         ensures { result ≡ is_some (left (state self.now)) }
     {
         let mut ahead = *self;
-        while !ahead.is_done() {
-            let Some(_) = ahead.field() else {
-                return false;
-            };
+        while ahead.next().is_some() {}
+        ahead.is_done() && ahead.may_end()
+    }
+}
+
+impl<'a> Iterator for Reader<'a> {
+    type Item = Field<'a>;
+
+    ghost next_gives = { Reads };
+
+    ghost remaining = { λ reader. at_most (length (state reader).rest) };
+
+    // The next field, if there is one that is allowed here; else the reader stays where it is.
+    fn next(&mut self) -> Option<Field<'a>> {
+        let [tag, hi, lo, after @ ..] = self.rest else {
+            return None;
+        };
+        let size = usize::from(u16::from_be_bytes([*hi, *lo]));
+        if size > after.len() {
+            return None;
         }
-        ahead.may_end()
+        let kind = Kind::of(char::from(*tag))?;
+        let (value, rest) = after.split_at(size);
+        self.stage = self.stage.next(kind, value)?;
+        self.rest = rest;
+        Some(Field::of(
+            kind,
+            Part {
+                place: self.whole.saturating_sub(after.len()),
+                bytes: value,
+            },
+        ))
     }
 }

@@ -12,7 +12,7 @@ use crate::value::number;
 use indexes::Side;
 use std::alloc::{AllocError, Global};
 
-#[derive(Clone, Copy)]
+#[derive(Clone, Copy, PartialEq, Eq, Debug)]
 pub enum Request<K> {
     // a row number of the column
     Strike(u32),
@@ -32,7 +32,8 @@ fn place<K: SheetKey>(bytes: &[u8]) -> Option<Request<K>>
 }
 
 impl<K: SheetKey> Request<K> {
-    // What a field asks, if it is a call over keys of this kind.
+    // What a field asks, if it is a call over keys of this kind. An Option says as much as a TryFrom: who reads calls
+    // passes over what is none.
     pub fn of(field: Field<'_>) -> Option<Request<K>>
         ensures { result ≡ request_of K.SheetKey.width K.SheetKey.spelled (told field.entry) }
     {
@@ -50,13 +51,8 @@ impl<'a> Sheet<'a> {
     pub fn requests<K: SheetKey>(&self, heap: Global) -> Result<Vec<Request<K>>, AllocError>
         ensures { (s : Said) → viewed self.now ≡ Some s → Asks K.SheetKey.width K.SheetKey.spelled s.calls result }
     {
-        let mut requests = Vec::new(heap);
-        let mut reader = self.calls;
-        while let Some(field) = reader.field() {
-            if let Some(request) = Request::of(field) {
-                requests.push(request)?;
-            }
-        }
-        Ok(requests)
+        self.calls
+            .filter_map(|field| Request::of(field))
+            .collect(heap)
     }
 }

@@ -14,14 +14,14 @@ use indexes::Layout;
 pub const MOST: usize = 65536;
 
 // A column of account numbers of 4 bytes, or of labels of 16.
-#[derive(Clone, Copy)]
+#[derive(Clone, Copy, PartialEq, Eq, Debug)]
 pub enum Column<'a> {
     Accounts(Part<'a>),
     Labels(Part<'a>),
 }
 
 // The directory's value is its letter and its node size; the reader stands at the first call.
-#[derive(Clone, Copy)]
+#[derive(Clone, Copy, PartialEq, Eq, Debug)]
 pub struct Sheet<'a> {
     pub directory: Part<'a>,
     pub column: Column<'a>,
@@ -29,7 +29,7 @@ pub struct Sheet<'a> {
 }
 
 impl<'a> Column<'a> {
-    // The column that a field is, if it is one.
+    // The column that a field is, if it is one. An Option says as much as a TryFrom: there is one way to fail.
     fn of(field: Field<'a>) -> Option<Column<'a>>
         ensures { option_map col result ≡ column_of (told field.entry) }
     {
@@ -62,10 +62,10 @@ impl<'a> Sheet<'a> {
             return None;
         }
         let mut reader = Reader::new(bytes);
-        let Field::Directory(directory) = reader.field()? else {
+        let Field::Directory(directory) = reader.next()? else {
             return None;
         };
-        let column = Column::of(reader.field()?)?;
+        let column = Column::of(reader.next()?)?;
         if !reader.is_well_formed() {
             return None;
         }

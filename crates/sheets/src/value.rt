@@ -1,42 +1,25 @@
-// How long a value is, what that of a directory and of a call for a place may be, and the number that four bytes are.
-ghost use Rattle.std.specs.Prelude.{◌≡◌, ◌+◌, ◌*◌};
+// What the value of a directory and of a call for a place may be, and the number that four bytes are.
+ghost use Rattle.std.specs.Prelude.{◌≡◌};
 ghost use Rattle.sheets.specs.Fields.{choice, sought};
 ghost use Rattle.sheets.specs.Said.{four_bytes};
-
-// The length of a value, in two bytes.
-pub(crate) fn big_endian(hi: u8, lo: u8) -> usize
-    ensures { result ≡ hi * 256 + lo }
-{
-    usize::from(hi) * 256 + usize::from(lo)
-}
 
 // F or L and a node size, or P and 0.
 pub(crate) fn is_choice(value: &[u8]) -> bool
     ensures { result ≡ choice value.now }
 {
-    match value {
-        [b'F' | b'L', _] => true,
-        [b'P', m] => *m == 0,
-        _ => false,
-    }
+    matches!(value, [b'F' | b'L', _] | [b'P', 0])
 }
 
 // a or n, and a key of `width` bytes.
 pub(crate) fn is_sought(value: &[u8], width: usize) -> bool
     ensures { result ≡ sought width value.now }
 {
-    match value {
-        [b'a' | b'n', key @ ..] => key.len() == width,
-        _ => false,
-    }
+    matches!(value, [b'a' | b'n', key @ ..] if key.len() == width)
 }
 
 // The big-endian number of four bytes.
 pub(crate) fn number(bytes: &[u8]) -> Option<u32>
     ensures { result ≡ four_bytes bytes.now }
 {
-    match bytes {
-        [a, b, c, d] => Some(u32::from_be_bytes([*a, *b, *c, *d])),
-        _ => None,
-    }
+    Some(u32::from_be_bytes(bytes.try_into().ok()?))
 }

@@ -2,69 +2,77 @@
 use crate::case::{Case, stranger, strangers};
 use crate::declined::{NOT_ALLOWED, is_declined};
 use crate::kind::Made;
-use crate::tally::Tally;
 use directories::build;
-use indexes::Layout;
-use keys::Key;
+use indexes::{Decline, Layout};
 use shapes::slot_count;
 use std::alloc::{AllocError, Global};
+use trials::Tally;
 
-// Is each slot the key of its row, and are there as many as were told?
-pub fn written<K: Key + Made>(
-    tally: &mut Tally,
-    heap: Global,
-    case: &Case<'_, K>,
-) -> Result<(), AllocError> {
-    let keys = case.column.keys.as_slice();
-    let count = case.slots.len();
-    tally.note(slot_count(case.layout, keys.len()) == Ok(count));
-    let mut slots: Vec<K> = strangers(heap, count)?;
-    tally.note(build(keys, case.layout, slots.as_mut_slice()).is_ok());
-    for (slot, expected) in slots.iter().zip(case.slots.iter()) {
-        tally.note(slot.is_same(expected));
-    }
-    Ok(())
+// A build to try: over these rows, under this layout, into so many slots.
+#[derive(Clone, Copy)]
+pub struct Build<'a, K> {
+    pub rows: &'a [K],
+    pub layout: Layout,
+    pub slots: usize,
 }
 
-// Is a build into so many slots declined for this reason, with all of them left?
-fn is_left<K: Key + Made>(
-    heap: Global,
-    column: &[K],
-    layout: Layout,
-    count: usize,
-    number: u8,
-) -> Result<bool, AllocError> {
-    let mut slots: Vec<K> = strangers(heap, count)?;
-    let mut left = is_declined(build(column, layout, slots.as_mut_slice()), number);
-    for slot in &slots {
-        left = left && slot.is_same(&stranger());
+impl<'a, K: Made> Build<'a, K> {
+    // Is it declined for this reason, with all of the slots left?
+    pub fn is_declined(&self, heap: Global, why: Decline) -> Result<bool, AllocError> {
+        let mut slots: Vec<K> = strangers(heap, self.slots)?;
+        let answer = build(self.rows, self.layout, slots.as_mut_slice());
+        Ok(is_declined(answer, why) && slots.iter().all(|slot| *slot == stranger()))
     }
-    Ok(left)
 }
 
-// Builds with a slot more and a slot less, over rows out of order, and with node sizes that are not allowed.
-pub fn declined<K: Key + Made>(
-    tally: &mut Tally,
-    heap: Global,
-    case: &Case<'_, K>,
-) -> Result<(), AllocError> {
-    let keys = case.column.keys.as_slice();
-    let count = case.slots.len();
-    let more = count.saturating_add(1);
-    tally.note(is_left(heap, keys, case.layout, more, 4)?);
-    if count > 0 {
-        tally.note(is_left(heap, keys, case.layout, count - 1, 4)?);
-    }
-    let rows = match &case.column.fallen {
-        Some(fallen) => {
-            tally.note(is_left(heap, fallen.as_slice(), case.layout, count, 3)?);
-            tally.note(is_left(heap, fallen.as_slice(), case.layout, more, 3)?);
-            fallen.as_slice()
+impl<'a, K: Made> Case<'a, K> {
+    // Is each slot the key of its row, and are there as many as were told?
+    pub fn slots_written(&self, heap: Global) -> Result<Tally, AllocError> {
+        let mut tally = Tally::new();
+        let keys = self.column.keys.as_slice();
+        let count = self.slots.len();
+        tally.note(slot_count(self.layout, keys.len()) == Ok(count));
+        let mut slots: Vec<K> = strangers(heap, count)?;
+        tally.note(build(keys, self.layout, slots.as_mut_slice()).is_ok());
+        for (slot, expected) in slots.iter().zip(self.slots.iter()) {
+            tally.note(slot == expected);
         }
-        None => keys,
-    };
-    for layout in NOT_ALLOWED {
-        tally.note(is_left(heap, rows, layout, more, 1)?);
+        Ok(tally)
     }
-    Ok(())
+
+    // Builds with a slot more and a slot less, over rows out of order, and with node sizes that are not allowed.
+    pub fn builds_declined(&self, heap: Global) -> Result<Tally, AllocError> {
+        let mut tally = Tally::new();
+        let fitting = Build {
+            rows: self.column.keys.as_slice(),
+            layout: self.layout,
+            slots: self.slots.len(),
+        };
+        let more = Build {
+            slots: fitting.slots.saturating_add(1),
+            ..fitting
+        };
+        tally.note(more.is_declined(heap, Decline::SlotCount)?);
+        if let Some(slots) = fitting.slots.checked_sub(1) {
+            let fewer = Build { slots, ..fitting };
+            tally.note(fewer.is_declined(heap, Decline::SlotCount)?);
+        }
+        let mut rows = fitting.rows;
+        if let Some(fallen) = &self.column.fallen {
+            rows = fallen.as_slice();
+            for build in [fitting, more] {
+                let out_of_order = Build { rows, ..build };
+                tally.note(out_of_order.is_declined(heap, Decline::OutOfOrder)?);
+            }
+        }
+        for layout in NOT_ALLOWED {
+            let build = Build {
+                rows,
+                layout,
+                ..more
+            };
+            tally.note(build.is_declined(heap, Decline::NodeSize)?);
+        }
+        Ok(tally)
+    }
 }

@@ -3,7 +3,6 @@ use crate::column::Column;
 use crate::kind::Made;
 use crate::reader::Reader;
 use indexes::Layout;
-use keys::Key;
 use std::alloc::{AllocError, Global};
 
 #[derive(Drop)]
@@ -21,25 +20,22 @@ pub fn stranger<K: Made>() -> K {
 }
 
 // So many of them, to fill slots with.
-pub fn strangers<K: Key + Made>(heap: Global, count: usize) -> Result<Vec<K>, AllocError> {
-    let mut slots = Vec::new(heap);
-    for _ in 0..count {
-        slots.push(stranger())?;
-    }
-    Ok(slots)
+pub fn strangers<K: Made>(heap: Global, count: usize) -> Result<Vec<K>, AllocError> {
+    vec![in heap; stranger(); count]
 }
 
-impl<'a, K: Key + Made> Case<'a, K> {
+impl<'a, K: Made> Case<'a, K> {
     pub fn new(
         heap: Global,
         column: &'a Column<K>,
         layout: Layout,
     ) -> Result<Case<'a, K>, AllocError> {
         let reader = Reader::new(heap, column.numbers.as_slice(), layout)?;
-        let mut slots = Vec::new(heap);
-        for row in reader.slot_rows() {
-            slots.push(column.keys.get(*row).copied().unwrap_or(stranger()))?;
-        }
+        let slots = reader
+            .slot_rows()
+            .iter()
+            .map(|row| column.keys.get(*row).copied().unwrap_or(stranger()))
+            .collect(heap)?;
         Ok(Case {
             column,
             layout,

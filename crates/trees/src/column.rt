@@ -1,21 +1,39 @@
 // A column to try: its numbers, its keys, and the numbers to look up, each with its places.
-use crate::halving::place_of;
 use crate::kind::Made;
-use crate::random::Random;
+use crate::passed::place_of;
+use crate::source::Source;
 use indexes::Side;
 use keys::Key;
-use std::alloc::{AllocError, Global};
+use std::alloc::AllocError;
 
 // A number to look up, with the places that counting over all rows gives.
-#[derive(Clone, Copy)]
+#[derive(Clone, Copy, PartialEq, Eq, Debug)]
 pub struct Lookup {
     pub number: u32,
-    pub at: usize,
-    pub after: usize,
+    at: usize,
+    after: usize,
+}
+
+impl Lookup {
+    fn over(rows: &[u32], number: u32) -> Lookup {
+        Lookup {
+            number,
+            at: place_of(rows, number, Side::At),
+            after: place_of(rows, number, Side::After),
+        }
+    }
+
+    pub fn place(&self, side: Side) -> usize {
+        match side {
+            Side::At => self.at,
+            Side::After => self.after,
+        }
+    }
 }
 
 #[derive(Drop)]
 pub struct Column<K> {
+    // two lists and not one of pairs, since the library takes the keys as one slice, and the reader the numbers
     pub numbers: Vec<u32>,
     pub keys: Vec<K>,
     // the keys with two of them exchanged, out of order; none where all are equivalent
@@ -24,58 +42,23 @@ pub struct Column<K> {
 }
 
 // Each number up to the last and the next two, where these are few; otherwise some of them, and both ends.
-fn sought_in(heap: Global, random: &mut Random, numbers: &[u32]) -> Result<Vec<u32>, AllocError> {
+fn sought_in(source: &mut Source, numbers: &[u32]) -> Result<Vec<u32>, AllocError> {
+    let heap = source.heap;
     let end = numbers.last().copied().unwrap_or(0).saturating_add(3);
-    let mut sought = Vec::new(heap);
     if end <= 600 {
-        for number in 0..end {
-            sought.push(number)?;
-        }
-        return Ok(sought);
+        return (0..end).collect(heap);
     }
-    for number in [0, 1, end.saturating_sub(3), end.saturating_sub(2)] {
-        sought.push(number)?;
-    }
-    for _ in 0..600 {
-        sought.push(random.below(end))?;
-    }
-    Ok(sought)
-}
-
-fn lookups_of(
-    heap: Global,
-    random: &mut Random,
-    numbers: &[u32],
-) -> Result<Vec<Lookup>, AllocError> {
-    let mut lookups = Vec::new(heap);
-    for number in &sought_in(heap, random, numbers)? {
-        lookups.push(Lookup {
-            number: *number,
-            at: place_of(numbers, *number, Side::At),
-            after: place_of(numbers, *number, Side::After),
-        })?;
-    }
-    Ok(lookups)
-}
-
-// Each number's key, in a spelling that is drawn.
-fn keys_of<K: Key + Made>(
-    heap: Global,
-    random: &mut Random,
-    numbers: &[u32],
-) -> Result<Vec<K>, AllocError> {
-    let mut keys = Vec::new(heap);
-    for number in numbers {
-        keys.push(K::made(*number, random.next()))?;
-    }
-    Ok(keys)
+    let ends = [0, 1, end.saturating_sub(3), end.saturating_sub(2)];
+    ends.into_iter()
+        .chain((0..600).map(|_| source.below(end)))
+        .collect(heap)
 }
 
 // Two rows that are drawn, the first of them less than the second, where there are such.
-fn falling_pair(random: &mut Random, numbers: &[u32]) -> Option<(usize, usize)> {
+fn falling_pair(source: &mut Source, numbers: &[u32]) -> Option<(usize, usize)> {
     for _ in 0..1000 {
-        let first = (random.next() as usize).checked_rem(numbers.len())?;
-        let second = (random.next() as usize).checked_rem(numbers.len())?;
+        let first = source.place(numbers.len())?;
+        let second = source.place(numbers.len())?;
         if first < second && numbers.get(first) < numbers.get(second) {
             return Some((first, second));
         }
@@ -84,38 +67,40 @@ fn falling_pair(random: &mut Random, numbers: &[u32]) -> Option<(usize, usize)> 
 }
 
 fn fallen_of<K: Key>(
-    heap: Global,
-    random: &mut Random,
+    source: &mut Source,
     numbers: &[u32],
     keys: &[K],
 ) -> Result<Option<Vec<K>>, AllocError> {
-    let Some((first, second)) = falling_pair(random, numbers) else {
+    let Some((first, second)) = falling_pair(source, numbers) else {
         return Ok(None);
     };
-    let mut fallen = Vec::from_slice(heap, keys)?;
+    let mut fallen = Vec::from_slice(source.heap, keys)?;
     if first < fallen.len() && second < fallen.len() {
         fallen.swap(first, second);
     }
     Ok(Some(fallen))
 }
 
-impl<K: Key + Made> Column<K> {
+impl<K: Made> Column<K> {
     // So many rows, each a step above its predecessor that is drawn below `steps`.
-    pub fn drawn(
-        heap: Global,
-        random: &mut Random,
-        rows: u32,
-        steps: u32,
-    ) -> Result<Column<K>, AllocError> {
-        let numbers = random.rising(heap, rows, steps)?;
-        let keys = keys_of(heap, random, numbers.as_slice())?;
-        let fallen = fallen_of(heap, random, numbers.as_slice(), keys.as_slice())?;
-        let lookups = lookups_of(heap, random, numbers.as_slice())?;
+    pub fn drawn(source: &mut Source, rows: u32, steps: u32) -> Result<Column<K>, AllocError> {
+        let numbers = source.rising(rows as usize, steps)?;
+        let keys = source.keys(numbers.as_slice())?;
+        let fallen = fallen_of(source, numbers.as_slice(), keys.as_slice())?;
+        let lookups = sought_in(source, numbers.as_slice())?
+            .iter()
+            .map(|number| Lookup::over(numbers.as_slice(), *number))
+            .collect(source.heap)?;
         Ok(Column {
             numbers,
             keys,
             fallen,
             lookups,
         })
+    }
+
+    // The number of a row; 0 past the last.
+    pub fn number(&self, row: usize) -> u32 {
+        self.numbers.get(row).copied().unwrap_or(0)
     }
 }

@@ -1,12 +1,18 @@
 // What every decline is held to, and the layouts that are always declined.
 use indexes::{Decline, Layout};
 
-// Is the call declined for the reason with this number?
-pub fn is_declined(answer: Result<(), Decline>, number: u8) -> bool {
-    match answer {
-        Ok(()) => false,
-        Err(why) => why.number() == number,
-    }
+// The reasons that are tried, each with its number.
+const NUMBERS: [(Decline, u8); 5] = [
+    (Decline::NodeSize, 1),
+    (Decline::TooManyRows, 2),
+    (Decline::OutOfOrder, 3),
+    (Decline::SlotCount, 4),
+    (Decline::SlotDiffers, 5),
+];
+
+// Is the call declined for this reason, and is the reason's number the one that belongs to it?
+pub fn is_declined(answer: Result<(), Decline>, why: Decline) -> bool {
+    answer == Err(why) && NUMBERS.contains(&(why, why.number()))
 }
 
 // Node sizes that are not allowed: too small, too large, and for a level directory between the powers of two.

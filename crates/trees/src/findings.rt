@@ -2,16 +2,16 @@
 use crate::case::Case;
 use crate::column::Column;
 use crate::kind::Made;
-use crate::lookups::{Found, opened};
-use crate::random::Random;
-use crate::tally::Tally;
-use crate::{builds, openings, respelled};
+use crate::lookups::Found;
+use crate::opening::Opening;
+use crate::report::Report;
+use crate::source::{LEVEL_SLOTS, Source};
 use indexes::Layout;
-use keys::Key;
-use std::alloc::{AllocError, Global};
-use std::io;
+use std::alloc::AllocError;
+use std::{io, iter};
+use trials::Tally;
 
-#[derive(Clone, Copy)]
+#[derive(Clone, Copy, PartialEq, Eq, Debug, Default)]
 pub struct Findings {
     slots: Tally,
     builds: Tally,
@@ -21,95 +21,83 @@ pub struct Findings {
 }
 
 impl Findings {
-    pub fn new() -> Findings {
-        Findings {
-            slots: Tally::new(),
-            builds: Tally::new(),
-            openings: Tally::new(),
-            found: Found::new(),
-            respelled: Found::new(),
+    // Columns of few rows under every layout, from none to 130; and longer ones.
+    pub fn of<K: Made>(source: &mut Source) -> Result<Findings, AllocError> {
+        let mut findings = Findings::default();
+        for rows in 0..=130 {
+            let column: Column<K> = Column::drawn(source, rows, rows % 4 + 1)?;
+            findings.every_layout(source, &column)?;
         }
-    }
-
-    fn case<K: Key + Made>(
-        &mut self,
-        heap: Global,
-        random: &mut Random,
-        column: &Column<K>,
-        layout: Layout,
-    ) -> Result<(), AllocError> {
-        let case = Case::new(heap, column, layout)?;
-        builds::written(&mut self.slots, heap, &case)?;
-        builds::declined(&mut self.builds, heap, &case)?;
-        openings::declined(&mut self.openings, heap, &case, random)?;
-        opened(&mut self.found, heap, &case, case.slots.as_slice(), random)?;
-        respelled::tried(&mut self.respelled, heap, &case, random)
+        for rows in [1000, 2047, 4096, 4097, 5000] {
+            for steps in [2, 5] {
+                let column: Column<K> = Column::drawn(source, rows, steps)?;
+                findings.some_layouts(source, &column)?;
+            }
+        }
+        Ok(findings)
     }
 
     // A column under every layout that is allowed.
-    pub fn every_layout<K: Key + Made>(
+    fn every_layout<K: Made>(
         &mut self,
-        heap: Global,
-        random: &mut Random,
+        source: &mut Source,
         column: &Column<K>,
     ) -> Result<(), AllocError> {
-        self.case(heap, random, column, Layout::Bare)?;
-        for slots in 2..=64 {
-            self.case(heap, random, column, Layout::Full { slots })?;
-        }
-        for slots in [2, 4, 8, 16, 32, 64] {
-            self.case(heap, random, column, Layout::Level { slots })?;
+        let full = (2..=64).map(|slots| Layout::Full { slots });
+        let level = LEVEL_SLOTS.into_iter().map(|slots| Layout::Level { slots });
+        for layout in iter::once(Layout::Bare).chain(full).chain(level) {
+            self.case(source, column, layout)?;
         }
         Ok(())
     }
 
     // A column under the bare layout and some others that are drawn.
-    fn some_layouts<K: Key + Made>(
+    fn some_layouts<K: Made>(
         &mut self,
-        heap: Global,
-        random: &mut Random,
+        source: &mut Source,
         column: &Column<K>,
     ) -> Result<(), AllocError> {
-        self.case(heap, random, column, Layout::Bare)?;
+        self.case(source, column, Layout::Bare)?;
         for _ in 0..3 {
-            let full = random.full();
-            self.case(heap, random, column, full)?;
-            let level = random.level();
-            self.case(heap, random, column, level)?;
+            let full = source.full();
+            self.case(source, column, full)?;
+            let level = source.level();
+            self.case(source, column, level)?;
         }
         Ok(())
     }
 
-    // Columns of few rows under every layout, from none to `most`; and longer ones.
-    pub fn columns<K: Key + Made>(
+    fn case<K: Made>(
         &mut self,
-        heap: Global,
-        random: &mut Random,
-        most: u32,
+        source: &mut Source,
+        column: &Column<K>,
+        layout: Layout,
     ) -> Result<(), AllocError> {
-        for rows in 0..=most {
-            let column: Column<K> = Column::drawn(heap, random, rows, rows % 4 + 1)?;
-            self.every_layout(heap, random, &column)?;
-        }
-        for rows in [1000, 2047, 4096, 4097, 5000] {
-            for steps in [2, 5] {
-                let column: Column<K> = Column::drawn(heap, random, rows, steps)?;
-                self.some_layouts(heap, random, &column)?;
-            }
+        let case = Case::new(source.heap, column, layout)?;
+        self.slots += case.slots_written(source.heap)?;
+        self.builds += case.builds_declined(source.heap)?;
+        self.openings += case.openings_declined(source)?;
+        self.found.opened(&case, case.fitting(), source)?;
+        if let Some(slots) = case.respelled(source)? {
+            let opening = Opening {
+                slots: slots.as_slice(),
+                ..case.fitting()
+            };
+            self.respelled.opened(&case, opening, source)?;
         }
         Ok(())
     }
 
-    // Prints a line for each thing that was tried, and adds it to the sum.
-    pub fn print(&self, rt: &HostRuntime, sum: &mut Tally) -> io::Result<()> {
-        sum.group(rt, "slots written", self.slots)?;
-        sum.group(rt, "builds declined", self.builds)?;
-        sum.group(rt, "openings declined", self.openings)?;
-        self.found.print(rt, sum)
+    // Prints a line for each thing that was tried.
+    pub fn print(&self, report: &mut Report<'_>) -> io::Result<()> {
+        report.group("slots written", self.slots)?;
+        report.group("builds declined", self.builds)?;
+        report.group("openings declined", self.openings)?;
+        self.found.print(report)
     }
 
     // The same for what was opened with slots in other letters.
-    pub fn print_respelled(&self, rt: &HostRuntime, sum: &mut Tally) -> io::Result<()> {
-        self.respelled.print(rt, sum)
+    pub fn print_respelled(&self, report: &mut Report<'_>) -> io::Result<()> {
+        self.respelled.print(report)
     }
 }

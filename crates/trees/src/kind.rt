@@ -1,21 +1,24 @@
 // The kinds of key that are tried. A key is made of a number, so that the reader has only numbers to look at.
-use keys::{Account, Amount, Label, Pair};
+use keys::{Account, Amount, Key, Label, Pair};
+use std::alloc::{AllocError, Global};
 
-pub trait Made: Sized {
+// `==` tells whether two keys are the same, and not only equivalent.
+pub trait Made: Key + PartialEq {
     // A key that comes before those of larger numbers. The spelling chooses among equivalent keys, where there are several.
     fn made(number: u32, spelling: u32) -> Self;
+}
 
-    // Is it the same key, and not only an equivalent one?
-    fn is_same(&self, other: &Self) -> bool;
+// Keys made of these numbers. In a `Vec`, since an array of any kind of key might be larger than memory.
+pub fn made_of<K: Made>(heap: Global, numbers: &[u32]) -> Result<Vec<K>, AllocError> {
+    numbers
+        .iter()
+        .map(|number| K::made(*number, 0))
+        .collect(heap)
 }
 
 impl Made for Account {
     fn made(number: u32, _spelling: u32) -> Account {
-        Account { number }
-    }
-
-    fn is_same(&self, other: &Account) -> bool {
-        self.number == other.number
+        Account::from(number)
     }
 }
 
@@ -23,15 +26,9 @@ impl Made for Account {
 impl Made for Pair<Account, Amount> {
     fn made(number: u32, _spelling: u32) -> Pair<Account, Amount> {
         Pair {
-            first: Account { number: number / 3 },
-            second: Amount {
-                cents: i64::from(number % 3) - 1,
-            },
+            first: Account::from(number / 3),
+            second: Amount::from(i64::from(number % 3) - 1),
         }
-    }
-
-    fn is_same(&self, other: &Pair<Account, Amount>) -> bool {
-        self.first.number == other.first.number && self.second.cents == other.second.cents
     }
 }
 
@@ -40,10 +37,10 @@ const DIGITS: [u8; 8] = [b' ', b'0', b'A', b'M', b'Z', b'[', b'_', 233];
 
 // The letter in the other case; any other byte as it is.
 fn other_case(byte: u8) -> u8 {
-    match byte {
-        b'a'..=b'z' => byte - 32,
-        b'A'..=b'Z' => byte + 32,
-        _ => byte,
+    if byte.is_ascii_lowercase() {
+        byte.to_ascii_uppercase()
+    } else {
+        byte.to_ascii_lowercase()
     }
 }
 
@@ -52,19 +49,15 @@ impl Made for Label {
     fn made(number: u32, spelling: u32) -> Label {
         let mut bytes = *b"row ??????of day";
         let mut left = number;
-        for place in (4..10usize).rev() {
-            bytes[place] = DIGITS[(left % 8) as usize];
+        for byte in bytes[4..10].iter_mut().rev() {
+            *byte = DIGITS[(left % 8) as usize];
             left /= 8;
         }
-        for place in 0..16usize {
+        for (place, byte) in bytes.iter_mut().enumerate() {
             if (spelling >> place) % 2 == 1 {
-                bytes[place] = other_case(bytes[place]);
+                *byte = other_case(*byte);
             }
         }
-        Label { bytes }
-    }
-
-    fn is_same(&self, other: &Label) -> bool {
-        self.bytes == other.bytes
+        Label::from(bytes)
     }
 }

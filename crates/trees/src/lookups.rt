@@ -1,108 +1,90 @@
 // Places and comparisons of an index that opened.
 use crate::case::{Case, stranger};
 use crate::declined::{NOT_ALLOWED, is_declined};
-use crate::held::made_of;
-use crate::kind::Made;
-use crate::random::Random;
-use crate::tally::Tally;
+use crate::kind::{Made, made_of};
+use crate::opening::Opening;
+use crate::report::Report;
+use crate::source::Source;
 use directories::FrozenIndex;
-use indexes::{Index, Side};
-use keys::Key;
-use std::alloc::{AllocError, Global};
+use indexes::{Decline, Index, Side};
+use std::alloc::AllocError;
 use std::io;
+use trials::Tally;
 
 // What was found of the rows of an index, of its places, and of their comparisons.
-#[derive(Clone, Copy)]
+#[derive(Clone, Copy, PartialEq, Eq, Debug, Default)]
 pub struct Found {
-    pub rows: Tally,
-    pub places: Tally,
-    pub comparisons: Tally,
+    rows: Tally,
+    places: Tally,
+    comparisons: Tally,
 }
 
 impl Found {
-    pub fn new() -> Found {
-        Found {
-            rows: Tally::new(),
-            places: Tally::new(),
-            comparisons: Tally::new(),
+    pub fn print(&self, report: &mut Report<'_>) -> io::Result<()> {
+        report.group("openings, and the rows then", self.rows)?;
+        report.group("places", self.places)?;
+        report.group("comparisons", self.comparisons)
+    }
+
+    // Has the index the rows of the column, and no more?
+    fn rows<K: Made, I: Index<K>>(&mut self, index: &I, column: &[K])
+        requires { I.Index.opened index.now }
+    {
+        self.rows.note(index.len() == column.len());
+        let mut held = stranger();
+        for (place, row) in column.iter().enumerate() {
+            self.rows
+                .note(index.row(place, &mut held).is_ok() && held == *row);
+        }
+        self.rows.note(index.row(column.len(), &mut held).is_err());
+    }
+
+    // Each key on either side: the place as counted over all rows, the comparisons as by the reader's descent.
+    fn places<K: Made, I: Index<K>>(&mut self, index: &I, case: &Case<'_, K>, source: &mut Source)
+        requires { I.Index.opened index.now }
+    {
+        let ceiling = case.reader.ceiling();
+        self.comparisons.note(index.ceiling() == ceiling);
+        for lookup in &case.column.lookups {
+            let key = source.key(lookup.number);
+            for side in [Side::At, Side::After] {
+                let counted = lookup.place(side);
+                let expected = case.reader.sought(lookup.number, side);
+                let answer = index.place(&key, side);
+                self.places
+                    .note(answer.answer == counted && counted == expected.place);
+                self.comparisons.note(
+                    answer.comparisons == expected.comparisons && answer.comparisons <= ceiling,
+                );
+            }
         }
     }
 
-    pub fn print(&self, rt: &HostRuntime, sum: &mut Tally) -> io::Result<()> {
-        sum.group(rt, "openings, and the rows then", self.rows)?;
-        sum.group(rt, "places", self.places)?;
-        sum.group(rt, "comparisons", self.comparisons)
+    // Opens the case's column with these slots, tries openings that are declined, and looks up its keys.
+    pub fn opened<K: Made>(
+        &mut self,
+        case: &Case<'_, K>,
+        opening: Opening<'_, K>,
+        source: &mut Source,
+    ) -> Result<(), AllocError> {
+        let Opening {
+            column,
+            layout,
+            slots,
+        } = opening;
+        let falling: Vec<K> = made_of(source.heap, &[9, 3])?;
+        let falling = falling.as_slice();
+        let mut index = FrozenIndex::empty();
+        self.rows.note(index.open(column, layout, slots).is_ok());
+        let answer = index.open(falling, layout, falling);
+        self.rows.note(is_declined(answer, Decline::OutOfOrder));
+        let answer = index.open(&[], layout, falling);
+        self.rows.note(is_declined(answer, Decline::SlotCount));
+        let answer = index.open(&[], NOT_ALLOWED[1], slots);
+        self.rows.note(is_declined(answer, Decline::NodeSize));
+        self.rows.note(index.layout() == layout);
+        self.rows(&index, column);
+        self.places(&index, case, source);
+        Ok(())
     }
-}
-
-// Has the index the rows of the column, and no more?
-fn rows<K: Key + Made, I: Index<K>>(tally: &mut Tally, index: &I, column: &[K])
-    requires { I.Index.opened index.now }
-{
-    tally.note(index.len() == column.len());
-    let mut held = stranger();
-    for (place, row) in column.iter().enumerate() {
-        tally.note(index.row(place, &mut held).is_ok() && held.is_same(row));
-    }
-    tally.note(index.row(column.len(), &mut held).is_err());
-}
-
-// Each key on either side: the place as counted over all rows, the comparisons as by the reader's descent.
-fn places<K: Key + Made, I: Index<K>>(
-    found: &mut Found,
-    index: &I,
-    case: &Case<'_, K>,
-    random: &mut Random,
-)
-    requires { I.Index.opened index.now }
-{
-    let ceiling = case.reader.ceiling();
-    found.comparisons.note(index.ceiling() == ceiling);
-    for lookup in &case.column.lookups {
-        let key = K::made(lookup.number, random.next());
-        for side in [Side::At, Side::After] {
-            let counted = match side {
-                Side::At => lookup.at,
-                Side::After => lookup.after,
-            };
-            let expected = case.reader.sought(lookup.number, side);
-            let answer = index.place(&key, side);
-            found
-                .places
-                .note(answer.answer == counted && counted == expected.place);
-            found.comparisons.note(
-                answer.comparisons == expected.comparisons && answer.comparisons <= ceiling,
-            );
-        }
-    }
-}
-
-// Opens the case with these slots, tries other openings that are declined, and looks up its keys.
-pub fn opened<K: Key + Made>(
-    found: &mut Found,
-    heap: Global,
-    case: &Case<'_, K>,
-    slots: &[K],
-    random: &mut Random,
-) -> Result<(), AllocError> {
-    let keys = case.column.keys.as_slice();
-    let other: Vec<K> = made_of(heap, &[9, 3])?;
-    let other = other.as_slice();
-    let mut index = FrozenIndex::empty();
-    found
-        .rows
-        .note(index.open(keys, case.layout, slots).is_ok());
-    found
-        .rows
-        .note(is_declined(index.open(other, case.layout, other), 3));
-    found
-        .rows
-        .note(is_declined(index.open(&[], case.layout, other), 4));
-    found
-        .rows
-        .note(is_declined(index.open(&[], NOT_ALLOWED[1], slots), 1));
-    found.rows.note(index.layout() == case.layout);
-    rows(&mut found.rows, &index, keys);
-    places(found, &index, case, random);
-    Ok(())
 }

@@ -1,7 +1,8 @@
 // The numbers of a directory, found by counting: chunk by chunk, level by level, and node by node.
 use indexes::Layout;
+use std::iter;
 
-#[derive(Clone, Copy)]
+#[derive(Clone, Copy, PartialEq, Eq, Debug)]
 pub struct Numbers {
     // n, m and w: the rows, the slots of a node, and its children
     pub rows: usize,
@@ -21,41 +22,35 @@ pub struct Numbers {
 
 // A chunk begins at each row whose number the slots of a node divide.
 fn chunks_of(rows: usize, slots: usize) -> usize {
-    let mut chunks = 0usize;
-    for row in 0..rows {
-        if row.checked_rem(slots) == Some(0) {
-            chunks = chunks.saturating_add(1);
-        }
-    }
-    chunks
+    (0..rows)
+        .filter(|row| row.checked_rem(slots) == Some(0))
+        .count()
 }
 
 // A tree begins as one leaf. A leaf that becomes internal has children in its place, until there is a leaf for each chunk.
 fn internal_of(chunks: usize, children: usize) -> usize {
-    let mut internal = 0usize;
-    let mut leaves = 1usize;
-    for _ in 0..chunks {
-        if leaves < chunks {
-            internal = internal.saturating_add(1);
-            leaves = leaves.saturating_sub(1).saturating_add(children);
-        }
-    }
-    internal
+    iter::successors(Some(1usize), |leaves| {
+        Some(leaves.saturating_sub(1).saturating_add(children))
+    })
+    .take(chunks)
+    .take_while(|leaves| *leaves < chunks)
+    .count()
+}
+
+// The levels that have fewer nodes than there are chunks, and the nodes on them; a level is as wide as the children of the one above.
+fn levels_of(chunks: usize, children: usize) -> (u32, usize) {
+    iter::successors(Some(1usize), |width| Some(width.saturating_mul(children)))
+        .take(chunks)
+        .take_while(|width| *width < chunks)
+        .fold((0u32, 0usize), |(levels, nodes), width| {
+            (levels.saturating_add(1), nodes.saturating_add(width))
+        })
 }
 
 impl Numbers {
     fn counted(rows: usize, slots: usize, children: usize) -> Numbers {
         let chunks = chunks_of(rows, slots);
-        let mut levels = 0u32;
-        let mut upper = 0usize;
-        let mut width = 1usize;
-        for _ in 0..chunks {
-            if width < chunks {
-                levels = levels.saturating_add(1);
-                upper = upper.saturating_add(width);
-                width = width.saturating_mul(children);
-            }
-        }
+        let (levels, upper) = levels_of(chunks, children);
         let internal = internal_of(chunks, children);
         let late = upper.saturating_sub(internal);
         Numbers {
@@ -72,17 +67,12 @@ impl Numbers {
 
     // None for a bare column.
     pub fn of(layout: Layout, rows: usize) -> Option<Numbers> {
-        match layout {
-            Layout::Bare => None,
-            Layout::Full { slots } => {
-                let slots = usize::from(slots);
-                Some(Numbers::counted(rows, slots, slots + 1))
-            }
-            Layout::Level { slots } => {
-                let slots = usize::from(slots);
-                Some(Numbers::counted(rows, slots, slots))
-            }
-        }
+        let (slots, more) = match layout {
+            Layout::Bare => return None,
+            Layout::Full { slots } => (usize::from(slots), 1),
+            Layout::Level { slots } => (usize::from(slots), 0),
+        };
+        Some(Numbers::counted(rows, slots, slots + more))
     }
 
     // The number of a node's child.

@@ -1,74 +1,85 @@
 // Openings that are declined.
 use crate::case::{Case, strangers};
 use crate::declined::NOT_ALLOWED;
-use crate::held::is_left;
 use crate::kind::Made;
-use crate::random::Random;
-use crate::tally::Tally;
-use keys::Key;
+use crate::opening::Opening;
+use crate::source::Source;
+use indexes::Decline;
 use std::alloc::{AllocError, Global};
+use trials::Tally;
 
-// Openings with slots too many or too few, over rows out of order, and with node sizes that are not allowed.
-fn misfits<K: Key + Made>(
-    tally: &mut Tally,
-    heap: Global,
-    case: &Case<'_, K>,
-) -> Result<(), AllocError> {
-    let keys = case.column.keys.as_slice();
-    let slots = case.slots.as_slice();
-    let more: Vec<K> = strangers(heap, slots.len().saturating_add(1))?;
-    let more = more.as_slice();
-    tally.note(is_left(heap, keys, case.layout, more, 4)?);
-    if let [_, fewer @ ..] = slots {
-        tally.note(is_left(heap, keys, case.layout, fewer, 4)?);
-    }
-    if let Some(fallen) = &case.column.fallen {
-        tally.note(is_left(heap, fallen.as_slice(), case.layout, slots, 3)?);
-        tally.note(is_left(heap, fallen.as_slice(), case.layout, more, 3)?);
-        tally.note(is_left(heap, fallen.as_slice(), NOT_ALLOWED[0], more, 1)?);
-    }
-    for layout in NOT_ALLOWED {
-        tally.note(is_left(heap, keys, layout, slots, 1)?);
-    }
-    Ok(())
-}
-
-// Slots of which one has a key that is not equivalent to its row's, by a little less or a little more.
-fn changed<K: Key + Made>(
-    tally: &mut Tally,
-    heap: Global,
-    case: &Case<'_, K>,
-    random: &mut Random,
-    place: usize,
-) -> Result<(), AllocError> {
-    let row = case.reader.slot_rows().get(place).copied().unwrap_or(0);
-    let number = case.column.numbers.get(row).copied().unwrap_or(0);
-    for other in [number.saturating_sub(1), number.saturating_add(1)] {
-        let mut slots = Vec::from_slice(heap, case.slots.as_slice())?;
-        if let Some(slot) = slots.get_mut(place) {
-            *slot = K::made(other, random.next());
+impl<'a, K: Made> Case<'a, K> {
+    // The opening that is not declined.
+    pub fn fitting(&self) -> Opening<'_, K> {
+        Opening {
+            column: self.column.keys.as_slice(),
+            layout: self.layout,
+            slots: self.slots.as_slice(),
         }
-        let keys = case.column.keys.as_slice();
-        tally.note(is_left(heap, keys, case.layout, slots.as_slice(), 5)?);
     }
-    Ok(())
-}
 
-// All of these; the last slot of a node is among those that are changed, which a level directory never looks at.
-pub fn declined<K: Key + Made>(
-    tally: &mut Tally,
-    heap: Global,
-    case: &Case<'_, K>,
-    random: &mut Random,
-) -> Result<(), AllocError> {
-    misfits(tally, heap, case)?;
-    let count = case.slots.len();
-    let Some(drawn) = (random.next() as usize).checked_rem(count) else {
-        return Ok(());
-    };
-    let nodes_last = case.reader.last_slot();
-    for place in [0, nodes_last, drawn, count - 1] {
-        changed(tally, heap, case, random, place)?;
+    // Openings with slots too many or too few, over rows out of order, and with node sizes that are not allowed.
+    fn misfits(&self, heap: Global) -> Result<Tally, AllocError> {
+        let mut tally = Tally::new();
+        let fitting = self.fitting();
+        let slots: Vec<K> = strangers(heap, fitting.slots.len().saturating_add(1))?;
+        let more = Opening {
+            slots: slots.as_slice(),
+            ..fitting
+        };
+        tally.note(more.is_declined(heap, Decline::SlotCount)?);
+        if let [_, slots @ ..] = fitting.slots {
+            let fewer = Opening { slots, ..fitting };
+            tally.note(fewer.is_declined(heap, Decline::SlotCount)?);
+        }
+        if let Some(fallen) = &self.column.fallen {
+            let column = fallen.as_slice();
+            tally.note(Opening { column, ..fitting }.is_declined(heap, Decline::OutOfOrder)?);
+            tally.note(Opening { column, ..more }.is_declined(heap, Decline::OutOfOrder)?);
+            let opening = Opening {
+                column,
+                layout: NOT_ALLOWED[0],
+                ..more
+            };
+            tally.note(opening.is_declined(heap, Decline::NodeSize)?);
+        }
+        for layout in NOT_ALLOWED {
+            let opening = Opening { layout, ..fitting };
+            tally.note(opening.is_declined(heap, Decline::NodeSize)?);
+        }
+        Ok(tally)
     }
-    Ok(())
+
+    // Slots of which one has a key that is not equivalent to its row's, by a little less or a little more.
+    fn changed(&self, source: &mut Source, place: usize) -> Result<Tally, AllocError> {
+        let mut tally = Tally::new();
+        let heap = source.heap;
+        let row = self.reader.slot_rows().get(place).copied().unwrap_or(0);
+        let number = self.column.number(row);
+        for other in [number.saturating_sub(1), number.saturating_add(1)] {
+            let mut slots = Vec::from_slice(heap, self.slots.as_slice())?;
+            if let Some(slot) = slots.get_mut(place) {
+                *slot = source.key(other);
+            }
+            let opening = Opening {
+                slots: slots.as_slice(),
+                ..self.fitting()
+            };
+            tally.note(opening.is_declined(heap, Decline::SlotDiffers)?);
+        }
+        Ok(tally)
+    }
+
+    // All of these; the last slot of a node is among those that are changed, which a level directory never looks at.
+    pub fn openings_declined(&self, source: &mut Source) -> Result<Tally, AllocError> {
+        let mut tally = self.misfits(source.heap)?;
+        let count = self.slots.len();
+        let Some(drawn) = source.place(count) else {
+            return Ok(tally);
+        };
+        for place in [0, self.reader.last_slot(), drawn, count - 1] {
+            tally += self.changed(source, place)?;
+        }
+        Ok(tally)
+    }
 }

@@ -1,9 +1,10 @@
 // The descent through a directory and its ceiling, by the rules, over the column's rows in plain numbers.
-use crate::halving::{Sought, digits, halved, part};
 use crate::numbers::Numbers;
+use crate::passed::{digits, is_passed, part};
 use crate::tree::Tree;
 use indexes::{Layout, Side};
 use std::alloc::{AllocError, Global};
+use trials::{Sought, halved};
 
 #[derive(Drop)]
 pub struct Reader<'a> {
@@ -11,31 +12,14 @@ pub struct Reader<'a> {
     layout: Layout,
     // none over a bare column
     tree: Option<Tree>,
-    // the number of each slot's row
-    slots: Vec<u32>,
 }
 
 impl<'a> Reader<'a> {
     pub fn new(heap: Global, rows: &'a [u32], layout: Layout) -> Result<Reader<'a>, AllocError> {
-        let Some(numbers) = Numbers::of(layout, rows.len()) else {
-            return Ok(Reader {
-                rows,
-                layout,
-                tree: None,
-                slots: Vec::new(heap),
-            });
-        };
-        let tree = Tree::new(heap, numbers)?;
-        let mut slots = Vec::new(heap);
-        for row in tree.slot_rows() {
-            slots.push(rows.get(*row).copied().unwrap_or(0))?;
-        }
-        Ok(Reader {
-            rows,
-            layout,
-            tree: Some(tree),
-            slots,
-        })
+        let tree = Numbers::of(layout, rows.len())
+            .map(|numbers| Tree::new(heap, numbers))
+            .transpose()?;
+        Ok(Reader { rows, layout, tree })
     }
 
     // The row of each slot.
@@ -58,10 +42,7 @@ impl<'a> Reader<'a> {
 
     // The most comparisons of a place.
     pub fn ceiling(&self) -> u32 {
-        let levels = match &self.tree {
-            Some(tree) => tree.numbers.levels,
-            None => 0,
-        };
+        let levels = self.tree.as_ref().map_or(0, |tree| tree.numbers.levels);
         match self.layout {
             Layout::Bare => digits(self.rows.len()),
             Layout::Full { slots } => levels
@@ -81,8 +62,15 @@ impl<'a> Reader<'a> {
     pub fn sought(&self, number: u32, side: Side) -> Sought {
         match &self.tree {
             Some(tree) => self.descent(tree, number, side),
-            None => halved(self.rows, number, side),
+            None => halved(self.rows, |row| is_passed(*row, number, side)),
         }
+    }
+
+    // Is the row with this number passed?
+    fn is_row_passed(&self, row: usize, number: u32, side: Side) -> bool {
+        self.rows
+            .get(row)
+            .is_some_and(|row| is_passed(*row, number, side))
     }
 
     fn descent(&self, tree: &Tree, number: u32, side: Side) -> Sought {
@@ -90,10 +78,11 @@ impl<'a> Reader<'a> {
         let mut node = 0usize;
         let mut comparisons = 0u32;
         for _ in 0..numbers.levels {
+            // a leaf may lie above the last level
             if node < numbers.internal {
-                let from = node.saturating_mul(numbers.slots);
-                let looked_at = numbers.children.saturating_sub(1);
-                let found = halved(part(self.slots.as_slice(), from, looked_at), number, side);
+                let found = halved(tree.looked_at(node), |row| {
+                    self.is_row_passed(*row, number, side)
+                });
                 comparisons = comparisons.saturating_add(found.comparisons);
                 node = numbers.child(node, found.place);
             }
@@ -105,7 +94,9 @@ impl<'a> Reader<'a> {
             };
         };
         let from = chunk.saturating_mul(numbers.slots);
-        let found = halved(part(self.rows, from, numbers.slots), number, side);
+        let found = halved(part(self.rows, from, numbers.slots), |row| {
+            is_passed(*row, number, side)
+        });
         Sought {
             place: from.saturating_add(found.place),
             comparisons: comparisons.saturating_add(found.comparisons),

@@ -9,7 +9,7 @@ use Rattle.indexes.specs.declared.layout.Layout.TheVariants.{Full, Level}
 use Rattle.indexes.specs.Seeking.{Sought}
 use Rattle.shapes.specs.Layouts.{allowed, shape_under, ceiling_under}
 use Rattle.shapes.specs.Nodes.{chunk_at}
-use Rattle.directories.specs.Frozen.{sought_under}
+use Rattle.directories.specs.Meanings.{sought_under}
 use Rattle.directories.specs.Slots.{slots_under}
 
 -- account numbers, ordered by size

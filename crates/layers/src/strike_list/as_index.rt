@@ -1,4 +1,5 @@
 // A strike list is an index: its rows are those below that are not struck.
+ghost use Rattle.std.proofs.Props.{props};
 ghost use Rattle.layers.specs.Table.{has};
 ghost use Rattle.layers.specs.Views.{list_means, out_of};
 ghost use Rattle.layers.specs.Hiding.{meant_sighted};
@@ -10,9 +11,11 @@ use keys::Key;
 impl<K: Key, I: Index<K>> Index<K> for StrikeList<K, I> {
     ghost means = { list_means };
 
-    ghost opened = { λ s. I.Index.opened s.below };
+    ghost opened = { λ _. Unit {0} };
 
-    ghost meant = { λ s o. meant_sighted K.Key.lawful (I.Index.meant s.below o) (has (out_of s)) };
+    ghost opened_is_fact = { λ _. Prim.hlevel props };
+
+    ghost meant = { λ s _. meant_sighted K.Key.lawful (I.Index.meant s.below s.opened) (has (out_of s)) };
 
     fn len(&self) -> usize {
         self.struck.in_sight(self.below.len())

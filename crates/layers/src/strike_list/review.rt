@@ -12,6 +12,7 @@ use std::marker::PhantomData;
 impl<K: Key, I: Index<K>> StrikeList<K, I> {
     // Nothing is struck.
     pub fn new(below: I) -> StrikeList<K, I>
+        requires { I.Index.opened below }
         ensures below { result.below ≡ below }
         ensures none { out_of result ≡ [] }
     {
@@ -38,7 +39,6 @@ impl<K: Key, I: Index<K>> StrikeList<K, I> {
 
     // Does the index below have a row of this number?
     fn below_has(&self, row: u32) -> Result<(), Decline>
-        requires { I.Index.opened self.now.below }
         ensures { result ≡ number_answer (rows_below self.now) row }
     {
         if (row as usize) < self.below.len() {
@@ -50,7 +50,6 @@ impl<K: Key, I: Index<K>> StrikeList<K, I> {
 
     // Puts a row of the index below out of sight.
     pub fn strike(&mut self, row: u32) -> Result<(), Decline>
-        requires { I.Index.opened self.old.below }
         ensures answers { result ≡ strike_on self.old row }
         ensures holds { out_of self.new ≡ with_number result (out_of self.old) row }
         ensures below { self.new.below ≡ self.old.below }
@@ -61,7 +60,6 @@ impl<K: Key, I: Index<K>> StrikeList<K, I> {
 
     // Puts a struck row back in sight.
     pub fn restore(&mut self, row: u32) -> Result<(), Decline>
-        requires { I.Index.opened self.old.below }
         ensures answers { result ≡ restore_on self.old row }
         ensures holds { out_of self.new ≡ without_number result (out_of self.old) row }
         ensures below { self.new.below ≡ self.old.below }

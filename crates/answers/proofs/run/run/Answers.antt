@@ -1,5 +1,5 @@
 -- One request more, answered by the reference.
-use Rattle.std.proofs.Common.{◌++◌, string_bytes, refl, sym, ap, ◌∙◌, subst}
+use Rattle.std.proofs.Common.{◌++◌, string_bytes, refl, ap, ◌∙◌}
 use Rattle.layers.specs.Reference.{reply, set_after}
 use Rattle.layers.specs.Table.{has}
 use Rattle.layers.specs.Views.{out_of}
@@ -10,9 +10,6 @@ use Rattle.answers.proofs.run.run.Goals as goal
 
 pub loop-request-init : goal.loop-request-init
 loop-request-init g c = (refl, ap (λ l. l ++ lines g.K.Key.before (g.I.Index.means c.args.list.now.below) (has (out_of c.args.list.now)) c.args.requests.now) c.new-text.ensures.bytes)
-
-pub answer-answer-requires : goal.answer-answer-requires
-answer-answer-requires g c = subst g.I.Index.opened (sym c.loop-request.invariant.0) c.requires
 
 pub loop-request-preserved : goal.loop-request-preserved
 loop-request-preserved g c =

@@ -10,7 +10,7 @@ invariant_of-self g c =
     let s = c.args.self.now in
     let n = length (g.I.Index.means s.below).rows in
     let is = answered n c.args.row _ c.in_ok-below_has.ensures c.insert.ensures.answers in
-    record { within = subst (λ l. Within l n) (sym c.insert.ensures.holds) (with_within n (numbers s.struck) c.args.row _ is s.within) }
+    record { opened = s.opened; within = subst (λ l. Within l n) (sym c.insert.ensures.holds) (with_within n (numbers s.struck) c.args.row _ is s.within) }
 
 pub returns : goal.returns
 returns g c =

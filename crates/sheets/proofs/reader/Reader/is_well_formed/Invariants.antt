@@ -3,8 +3,8 @@ use Rattle.std.proofs.Common.{◌≡◌, length, is_some}
 use Rattle.sheets.specs.Grammar.{state, left}
 use Rattle.sheets.proofs.reader.Reader.is_well_formed.Given as goal
 
-abbrev pub invariant-loop-ahead : goal.invariant-loop-ahead
-invariant-loop-ahead l = is_some (left (state l.ahead)) ≡ is_some (left (state l.self))
+abbrev pub invariant-loop : goal.invariant-loop
+invariant-loop l = is_some (left (state l.ahead)) ≡ is_some (left (state l.self))
 
-abbrev pub decreases-loop-ahead : goal.decreases-loop-ahead
-decreases-loop-ahead l = length l.ahead.rest.now
+abbrev pub decreases-loop : goal.decreases-loop
+decreases-loop l = length l.ahead.rest.now

@@ -3,20 +3,20 @@ use Rattle.std.proofs.Common.{◌≡◌, Some, sym, refl, ap, arith}
 use Rattle.sheets.specs.Fields.{told}
 use Rattle.sheets.specs.Grammar.{state, step}
 use Rattle.sheets.proofs.Readings.{none, no_first, no_directory, no_second, no_column, no_rest, all, bytes_fit}
-use Rattle.sheets.proofs.Steps.{went, stayed}
+use Rattle.sheets.proofs.Turns.{went, stayed}
 use Rattle.sheets.proofs.sheet.Sheet.read.Goals as goal
-use Rattle.sheets.proofs.sheet.Sheet.read.Goals.{In_ok-directory, In_ok-field}
+use Rattle.sheets.proofs.sheet.Sheet.read.Goals.{In_ok-directory, In_ok-next}
 
-first : (c : In_ok-directory) → Some (record { read = told c.in_ok-directory.field-0; then = state c.field.new.self }) ≡ step (state c.new-reader.result)
-first c = went (state c.new-reader.result) _ _ c.in_ok-directory.ensures.field c.in_ok-directory.ensures.reader
+first : (c : In_ok-directory) → Some (record { read = told c.in_ok-directory.field-0; then = state c.next.new.self }) ≡ step (state c.new-reader.result)
+first c = went c.in_ok-directory.ensures.steps
 
-second : (c : In_ok-field) → Some (record { read = told c.in_ok-field.field-0; then = state c.field-2.new.self }) ≡ step (state c.field.new.self)
-second c = went (state c.field.new.self) _ _ c.in_ok-field.ensures.field c.in_ok-field.ensures.reader
+second : (c : In_ok-next) → Some (record { read = told c.in_ok-next.field-0; then = state c.next-2.new.self }) ≡ step (state c.next.new.self)
+second c = went c.in_ok-next.ensures.steps
 
 pub returns-in_err-directory : goal.returns-in_err-directory
 returns-in_err-directory c =
     let a = none c.args.bytes.now _ c.from_residual.ensures
-    (no_first _ (omega arith) _ c.new-reader.ensures (stayed (state c.new-reader.result) c.in_err-directory.ensures.field)) in
+    (no_first _ (omega arith) _ c.new-reader.ensures (stayed c.in_err-directory.ensures.steps)) in
     record { said = a.said; written = a.written }
 
 pub returns-in_default : goal.returns-in_default
@@ -25,32 +25,32 @@ returns-in_default c =
     (no_directory _ (omega arith) _ c.new-reader.ensures _ (first (goal.at.returns-in_default c).In_ok-directory) _ refl c.in_default.not-Directory) in
     record { said = a.said; written = a.written }
 
-pub returns-in_err-field : goal.returns-in_err-field
-returns-in_err-field c =
-    let a = none c.args.bytes.now _ c.from_residual-in_err-field.ensures
-    (no_second _ (omega arith) _ c.new-reader.ensures _ (first (goal.at.returns-in_err-field c).In_ok-directory)
-    (stayed (state c.field.new.self) c.in_err-field.ensures.field)) in
+pub returns-in_err-next : goal.returns-in_err-next
+returns-in_err-next c =
+    let a = none c.args.bytes.now _ c.from_residual-in_err-next.ensures
+    (no_second _ (omega arith) _ c.new-reader.ensures _ (first (goal.at.returns-in_err-next c).In_ok-directory)
+    (stayed c.in_err-next.ensures.steps)) in
     record { said = a.said; written = a.written }
 
 pub returns-in_err-column : goal.returns-in_err-column
 returns-in_err-column c =
     let at = goal.at.returns-in_err-column c in
     let a = none c.args.bytes.now _ c.from_residual-in_err-column.ensures
-    (no_column _ (omega arith) _ c.new-reader.ensures _ (first at.In_ok-directory) _ (second at.In_ok-field) c.in_err-column.ensures) in
+    (no_column _ (omega arith) _ c.new-reader.ensures _ (first at.In_ok-directory) _ (second at.In_ok-next) c.in_err-column.ensures) in
     record { said = a.said; written = a.written }
 
 pub returns-then-not-is_well_formed : goal.returns-then-not-is_well_formed
 returns-then-not-is_well_formed c =
     let at = goal.at.returns-then-not-is_well_formed c in
     let a = none c.args.bytes.now _ refl
-    (no_rest _ (omega arith) _ c.new-reader.ensures _ (first at.In_ok-directory) _ (second at.In_ok-field) c.if-not-is_well_formed.ensures) in
+    (no_rest _ (omega arith) _ c.new-reader.ensures _ (first at.In_ok-directory) _ (second at.In_ok-next) c.if-not-is_well_formed.ensures) in
     record { said = a.said; written = a.written }
 
 pub returns : goal.returns
 returns c =
     let at = goal.at.returns c in
-    let a = all c.args.bytes.now (omega arith) _ c.new-reader.ensures _ (first at.In_ok-directory) _ (second at.In_ok-field)
-    (record { directory = c.in-Directory.directory; column = c.in_ok-column.column; calls = c.field-2.new.self })
+    let a = all c.args.bytes.now (omega arith) _ c.new-reader.ensures _ (first at.In_ok-directory) _ (second at.In_ok-next)
+    (record { directory = c.in-Directory.directory; column = c.in_ok-column.column; calls = c.next-2.new.self })
     (bytes_fit c.args.bytes.now c.type_inv.bytes) (ap told (sym c.in-Directory.is)) c.in_ok-column.ensures refl
     c.if-not-is_well_formed.ensures in
     record { said = a.said; written = a.written }

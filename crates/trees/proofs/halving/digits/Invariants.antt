@@ -1,4 +1,0 @@
-use Rattle.trees.proofs.halving.digits.Given as goal
-
-abbrev pub decreases-loop-left : goal.decreases-loop-left
-decreases-loop-left l = l.left
