@@ -1,4 +1,4 @@
-// Rows looked at in a plain loop, by halving.
+// Rows looked at in a plain loop, by halving: the library's `partition_point` looks at other rows, and counts nothing.
 ghost use Rattle.std.specs.Prelude.{◌≡◌, ◌*◌, ◌+◌, ◌^◌, ◌≤◌, ℕ, true, false, length, slice_get};
 ghost use Rattle.std.specs.Fn.{FnReturnsAt};
 
