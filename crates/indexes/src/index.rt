@@ -44,7 +44,8 @@ pub trait Index<K: Key> {
         requires { opened self.now }
         ensures { result ≡ (means self.now).ceiling };
 
-    // Puts the row at a place into `held`; past the end it is declined, and `held` stays.
+    // Puts the row at a place into `held`; past the end it is declined, and `held` stays. The key is the caller's, and not
+    // part of the result: a rule of the product, so that a caller who reads many rows holds one key.
     fn row(&self, place: usize, held: &mut K) -> Result<(), Decline>
         requires { opened self.now }
         ensures answers { result ≡ row_answer (means self.now).rows place }

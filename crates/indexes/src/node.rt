@@ -26,6 +26,7 @@ pub fn bits_of(n: usize) -> u32
 
 // Halves the range that is left until nothing is, one comparison for each round. Where the keys are in order, the
 // answer is the number of keys passed; in any case a passed key stands before it and one not passed stands at it.
+// The loop is written out since its rounds are promised: the library's `partition_point` leaves open which keys it reads.
 pub fn seek<K: Key>(keys: &[K], key: &K, side: Side) -> Counted<usize>
     ensures { Seeks K.Key.before keys.now key.now side result }
 {

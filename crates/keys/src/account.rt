@@ -1,4 +1,4 @@
-// An account number, ordered by size.
+// An account number, ordered by size. (A type of its own beside `Amount`, so that neither is taken for the other.)
 ghost use Rattle.std.specs.Prelude.{◌≡◌, nat_lt};
 ghost use Rattle.std.proofs.Common.{rules};
 

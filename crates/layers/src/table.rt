@@ -10,7 +10,8 @@ pub struct StruckRow {
     pub number: u32,
 }
 
-// At most 64 struck rows, their numbers ascending, each once. The entries from `len` on are free.
+// At most 64 struck rows, their numbers ascending, each once. The entries from `len` on are free. A fixed table, by a rule
+// of the product: a strike needs no memory, so it cannot fail for want of it.
 #[derive(Drop)]
 pub(crate) struct StruckRows {
     entries: [StruckRow; 64],

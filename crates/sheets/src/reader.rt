@@ -1,7 +1,9 @@
 // The reader of a sheet: its fields, one after the other.
 ghost use Rattle.std.specs.Prelude.{◌≡◌, length, is_some, ◌==◌};
 ghost use Rattle.std.specs.Iterator.{at_most};
-ghost use Rattle.sheets.specs.Grammar.{next, state, opened, Reads, ended, left};
+ghost use Rattle.std.specs.Option.{option_map};
+ghost use Rattle.sheets.specs.Fields.{told};
+ghost use Rattle.sheets.specs.Grammar.{next, state, opened, front, onward, Reads, ended, left};
 
 use crate::field::{Field, Kind, Part};
 use crate::value::{is_choice, is_sought};
@@ -53,6 +55,31 @@ impl<'a> Reader<'a> {
         }
     }
 
+    // The next field, if there is one that is allowed here; else the reader stays where it is.
+    pub fn field(&mut self) -> Option<Field<'a>>
+        ensures field { option_map told result ≡ front (state self.old) }
+        ensures reader { state self.new ≡ onward (state self.old) }
+    {
+        let [tag, hi, lo, after @ ..] = self.rest else {
+            return None;
+        };
+        let size = usize::from(u16::from_be_bytes([*hi, *lo]));
+        if size > after.len() {
+            return None;
+        }
+        let kind = Kind::of(char::from(*tag))?;
+        let (value, rest) = after.split_at(size);
+        self.stage = self.stage.next(kind, value)?;
+        self.rest = rest;
+        Some(Field::of(
+            kind,
+            Part {
+                place: self.whole.saturating_sub(after.len()),
+                bytes: value,
+            },
+        ))
+    }
+
     // Whether nothing is left.
     pub fn is_done(&self) -> bool
         ensures { result ≡ (length (state self.now).rest == 0) }
@@ -77,6 +104,7 @@ impl<'a> Reader<'a> {
     }
 }
 
+// It hands on fields until there is none that is allowed.
 impl<'a> Iterator for Reader<'a> {
     type Item = Field<'a>;
 
@@ -84,25 +112,7 @@ impl<'a> Iterator for Reader<'a> {
 
     ghost remaining = { λ reader. at_most (length (state reader).rest) };
 
-    // The next field, if there is one that is allowed here; else the reader stays where it is.
     fn next(&mut self) -> Option<Field<'a>> {
-        let [tag, hi, lo, after @ ..] = self.rest else {
-            return None;
-        };
-        let size = usize::from(u16::from_be_bytes([*hi, *lo]));
-        if size > after.len() {
-            return None;
-        }
-        let kind = Kind::of(char::from(*tag))?;
-        let (value, rest) = after.split_at(size);
-        self.stage = self.stage.next(kind, value)?;
-        self.rest = rest;
-        Some(Field::of(
-            kind,
-            Part {
-                place: self.whole.saturating_sub(after.len()),
-                bytes: value,
-            },
-        ))
+        self.field()
     }
 }
