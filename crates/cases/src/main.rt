@@ -21,14 +21,12 @@ use groups::{
 use question::Kind;
 use std::io;
 use trial::Trial;
-use trials::{Group, Tally, Widths};
+use trials::{Table, Widths};
 
-const WIDTHS: Widths = Widths { name: 52, tried: 6 };
-
-// Tries a group, prints its line, and adds it to the sum.
+// Tries a group, and prints its line.
 fn group<F: FnOnce(&mut Trial)>(
     rt: &HostRuntime,
-    sum: &mut Tally,
+    table: &mut Table,
     name: &str,
     tried: F,
 ) -> io::Result<()>
@@ -36,66 +34,64 @@ fn group<F: FnOnce(&mut Trial)>(
 {
     let mut trial = Trial::new(rt.alloc());
     tried(&mut trial);
-    let found = trial.tally;
-    let line = Group {
-        name,
-        found,
-        widths: WIDTHS,
-    };
-    *sum += found;
-    println!(rt; "{line}")
+    rt.println(table.line(name, trial.tally))
 }
 
 // Sheets that are built for one rule each.
-fn built(rt: &HostRuntime, sum: &mut Tally) -> io::Result<()> {
+fn built(rt: &HostRuntime, table: &mut Table) -> io::Result<()> {
     group(
         rt,
-        sum,
+        table,
         "every key over few rows and equal rows",
         every_key::tried,
     )?;
     group(
         rt,
-        sum,
+        table,
         "labels that differ only in case",
         letter_case::tried,
     )?;
-    group(rt, sum, "strikes and restores", strikes::tried)?;
+    group(rt, table, "strikes and restores", strikes::tried)?;
     group(
         rt,
-        sum,
+        table,
         "columns out of order, sheets without calls",
         out_of_order::tried,
     )?;
-    group(rt, sum, "malformed sheets by hand", malformed::tried)?;
+    group(rt, table, "malformed sheets by hand", malformed::tried)?;
     group(
         rt,
-        sum,
+        table,
         "every byte changed, every length",
         every_byte::tried,
     )?;
-    group(rt, sum, "good sheets cut at every length", cuts::tried)?;
-    group(rt, sum, "sheets of 65,536 and 65,537 bytes", longest::tried)
+    group(rt, table, "good sheets cut at every length", cuts::tried)?;
+    group(
+        rt,
+        table,
+        "sheets of 65,536 and 65,537 bytes",
+        longest::tried,
+    )
 }
 
 // Sheets that are drawn.
-fn drawn(rt: &HostRuntime, sum: &mut Tally) -> io::Result<()> {
-    group(rt, sum, "random sheets of accounts", |trial| {
+fn drawn(rt: &HostRuntime, table: &mut Table) -> io::Result<()> {
+    group(rt, table, "random sheets of accounts", |trial| {
         random_sheets::tried(trial, Kind::Accounts, 2000, 60)
     })?;
-    group(rt, sum, "random sheets of labels", |trial| {
+    group(rt, table, "random sheets of labels", |trial| {
         random_sheets::tried(trial, Kind::Labels, 2000, 60)
     })?;
-    group(rt, sum, "random sheets with many calls", |trial| {
+    group(rt, table, "random sheets with many calls", |trial| {
         random_sheets::tried(trial, Kind::Accounts, 200, 600)
     })
 }
 
 fn run(rt: &HostRuntime) -> anyhow::Result<()> {
-    let mut sum = Tally::new();
-    built(rt, &mut sum)?;
-    drawn(rt, &mut sum)?;
-    println!(rt; "{sum}")?;
+    let mut table = Table::new(Widths { name: 52, tried: 6 });
+    built(rt, &mut table)?;
+    drawn(rt, &mut table)?;
+    rt.println(table.sum)?;
     Ok(())
 }
 

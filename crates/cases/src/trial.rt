@@ -6,6 +6,9 @@ use answers::answer;
 use std::alloc::Global;
 use trials::Tally;
 
+// What is printed for bytes that are no sheet.
+pub const MALFORMED: &str = "X 12\n";
+
 // Want of memory counts as a difference.
 #[derive(Clone, Copy)]
 pub struct Trial {

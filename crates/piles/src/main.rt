@@ -14,10 +14,7 @@ mod seen;
 use keys::{Account, Amount, Pair, Reversed};
 use pile::piled;
 use std::alloc::{AllocError, Global};
-use std::io;
-use trials::{Group, Tally, Widths};
-
-const WIDTHS: Widths = Widths { name: 52, tried: 6 };
+use trials::{Table, Tally, Widths};
 
 fn amounts(heap: Global) -> Result<Tally, AllocError> {
     let column = [i64::MIN, -500, -500, -1, 0, 0, 7, i64::MAX].map(Amount::from);
@@ -59,35 +56,15 @@ fn falling(heap: Global) -> Result<Tally, AllocError> {
     piled(heap, &column, &between, &[1, 2, 3], &[3])
 }
 
-// Prints the line of a group, and adds it to the sum.
-fn group(rt: &HostRuntime, sum: &mut Tally, name: &str, found: Tally) -> io::Result<()> {
-    let line = Group {
-        name,
-        found,
-        widths: WIDTHS,
-    };
-    *sum += found;
-    println!(rt; "{line}")
-}
-
 fn run(rt: &HostRuntime) -> anyhow::Result<()> {
     let heap = rt.alloc();
-    let mut sum = Tally::new();
-    group(rt, &mut sum, "strike lists over amounts", amounts(heap)?)?;
-    group(rt, &mut sum, "strike lists over pairs", pairs(heap)?)?;
-    group(
-        rt,
-        &mut sum,
-        "strike lists over reversed accounts",
-        falling(heap)?,
-    )?;
-    group(
-        rt,
-        &mut sum,
-        "columns opened, declined and opened again",
-        opening::tried(heap)?,
-    )?;
-    println!(rt; "{sum}")?;
+    let mut table = Table::new(Widths { name: 52, tried: 6 });
+    rt.println(table.line("strike lists over amounts", amounts(heap)?))?;
+    rt.println(table.line("strike lists over pairs", pairs(heap)?))?;
+    rt.println(table.line("strike lists over reversed accounts", falling(heap)?))?;
+    let opened = opening::tried(heap)?;
+    rt.println(table.line("columns opened, declined and opened again", opened))?;
+    rt.println(table.sum)?;
     Ok(())
 }
 

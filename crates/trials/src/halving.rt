@@ -1,4 +1,4 @@
-// Rows looked at in a plain loop, by halving.
+// Rows looked at in a plain loop, by halving: the library's `partition_point` looks at other rows, and counts nothing.
 ghost use Rattle.std.specs.Prelude.{◌≡◌, ◌*◌, ◌+◌, ◌^◌, ◌≤◌, ℕ, true, false, length, slice_get};
 ghost use Rattle.std.specs.Fn.{FnReturnsAt};
 
@@ -15,7 +15,8 @@ pub fn halved<T, F: Fn(&T) -> bool>(rows: &[T], passes: F) -> Sought
     ensures place { result.place ≤ length rows.now }
     ensures before { (k : ℕ) (row : T) → k + 1 ≡ result.place → slice_get rows.now k ≡ Some row → FnReturnsAt F.Fn passes row true }
     ensures behind { (row : T) → slice_get rows.now result.place ≡ Some row → FnReturnsAt F.Fn passes row false }
-    ensures comparisons { 2 ^ result.comparisons ≤ 2 * length rows.now + 1 }
+    ensures most { 2 ^ result.comparisons ≤ 2 * length rows.now + 1 }
+    ensures fewest { length rows.now + 2 ≤ 2 ^ result.comparisons * 2 }
 {
     let mut lo = 0;
     let mut hi = rows.len();

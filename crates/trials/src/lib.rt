@@ -1,6 +1,7 @@
 // What programs that try a library share: counting what was tried, drawing numbers, reading every row plainly.
 //
-// `Tally` counts cases, and how many of them came out otherwise than expected; `Group` is its line in a table.
+// `Tally` counts cases, and how many of them came out otherwise than expected; `Table` adds the tallies of groups up, and
+// `Group` is the line of one. What they print is stated byte for byte.
 // `Random` draws numbers that look random and are the same in every run. `halved` seeks a place in rows by halving,
 // over a closure that says which rows are passed.
 //
@@ -8,12 +9,12 @@
 
 #![tactic(auto)]
 
-mod group;
 mod halving;
 mod random;
+mod table;
 mod tally;
 
-pub use group::{Group, Widths};
 pub use halving::{Sought, halved};
 pub use random::Random;
+pub use table::{Group, Table, Widths};
 pub use tally::Tally;

@@ -1,5 +1,6 @@
 // How many cases were tried, and how many came out otherwise than expected.
 ghost use Rattle.std.specs.Prelude.{◌≡◌, ◌+◌, ◌-◌, ◌^◌, ◌++◌, min, if◌then◌else◌, Some, decimal, codes};
+ghost use Rattle.trials.specs.Table.{none, sum_of};
 
 use std::fmt;
 use std::ops::AddAssign;
@@ -13,7 +14,7 @@ pub struct Tally {
 
 impl Tally {
     pub fn new() -> Tally
-        ensures { result ≡ record { tried = 0; differ = 0 } }
+        ensures { result ≡ none }
     {
         Tally::default()
     }
@@ -30,7 +31,7 @@ impl Tally {
 }
 
 impl AddAssign for Tally {
-    ghost add_assign_gives = { λ x y r. (r.tried ≡ min (x.tried + y.tried) (2 ^ 32 - 1)) × (r.differ ≡ min (x.differ + y.differ) (2 ^ 32 - 1)) };
+    ghost add_assign_gives = { λ x y r. r ≡ sum_of x y };
 
     fn add_assign(&mut self, other: Tally) {
         self.tried = self.tried.saturating_add(other.tried);

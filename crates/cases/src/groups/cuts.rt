@@ -1,6 +1,6 @@
 // Good sheets cut at every length: malformed, but where the cut leaves whole fields and the column among them.
 use crate::question::{Ask, Kind, PlainKey, Question, after, at, front};
-use crate::trial::Trial;
+use crate::trial::{MALFORMED, Trial};
 use crate::written::sheet_of;
 use std::alloc::AllocError;
 
@@ -15,7 +15,7 @@ fn every_cut(trial: &mut Trial, whole: &Question<'_>) -> Result<(), AllocError> 
         };
         let end = sheet_of(trial.heap, &short)?.len();
         for cut in from..end {
-            trial.sheet(front(sheet.as_slice(), cut), "X 12\n");
+            trial.sheet(front(sheet.as_slice(), cut), MALFORMED);
         }
         trial.question(&short);
         from = end.saturating_add(1);

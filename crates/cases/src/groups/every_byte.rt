@@ -2,7 +2,7 @@
 ghost use Rattle.std.specs.Prelude.{◌<◌, ◌≤◌};
 
 use crate::question::{Kind, front};
-use crate::trial::Trial;
+use crate::trial::{MALFORMED, Trial};
 
 // A bare column without rows, and a place or a strike.
 const PLACE: [u8; 16] = *b"D\x00\x02P\x00K\x00\x00Q\x00\x05a\x00\x00\x00\x00";
@@ -16,7 +16,7 @@ fn place_text(place: usize, byte: u8) -> &'static str {
         (1 | 4 | 6 | 7 | 9, 0) | (11, b'a' | b'n') | (12..=15, _) => "Q 0 0 0\n",
         // the call is two account numbers then
         (7, 8) => "K 3\n",
-        _ => "X 12\n",
+        _ => MALFORMED,
     }
 }
 
@@ -26,7 +26,7 @@ fn strike_text(place: usize, byte: u8) -> &'static str {
         (0, b'D') | (2, 2) | (3, b'P') | (5, b'T' | b'K') | (8, b'S') | (10, 4) => "S 6\n",
         (1 | 4 | 6 | 7 | 9, 0) | (11.., _) => "S 6\n",
         (8, b'R') => "R 6\n",
-        _ => "X 12\n",
+        _ => MALFORMED,
     }
 }
 
@@ -57,7 +57,7 @@ fn width(kind: Kind) -> u8
 
 // What is printed: the text, where the sheet is one.
 fn text_if(is_sheet: bool, text: &str) -> &str {
-    if is_sheet { text } else { "X 12\n" }
+    if is_sheet { text } else { MALFORMED }
 }
 
 // A column with so many bytes, all zero.

@@ -14,7 +14,10 @@ fn sought() -> [Ask; 141] {
 
 // A column in which each number from 1 on stands `run` times.
 fn in_runs(run: usize) -> [PlainKey; 66] {
-    array::from_fn(|row| { PlainKey::Account((row.checked_div(run).unwrap_or(0) + 1) as u32) })
+    array::from_fn(|row| {
+        let number = row.checked_div(run).unwrap_or(0) + 1;
+        PlainKey::Account(number as u32)
+    })
 }
 
 fn over(trial: &mut Trial, rows: &[PlainKey]) {

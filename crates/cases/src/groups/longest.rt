@@ -1,6 +1,6 @@
 // Sheets of exactly 65,536 bytes, the most that a sheet may have, and of one byte more.
 use crate::question::{Ask, Kind, PlainKey, Question, after};
-use crate::trial::Trial;
+use crate::trial::{MALFORMED, Trial};
 use crate::written::sheet_of;
 use std::alloc::{AllocError, Global};
 
@@ -58,7 +58,7 @@ fn shaped(trial: &mut Trial, shape: Shape) -> Result<(), AllocError> {
     let len = sheet_of(trial.heap, &question)?.len();
     trial.tally.note(len == shape.bytes);
     if shape.bytes > 65_536 {
-        trial.by_hand(&question, "X 12\n");
+        trial.by_hand(&question, MALFORMED);
     } else {
         trial.question(&question);
     }

@@ -1,5 +1,5 @@
 // Every way in which bytes are no sheet, each written by hand; all of them print one line.
-use crate::trial::Trial;
+use crate::trial::{MALFORMED, Trial};
 
 const SHEETS: [&str; 74] = [
     // the directory is missing, or is none.
@@ -84,6 +84,6 @@ const SHEETS: [&str; 74] = [
 
 pub fn tried(trial: &mut Trial) {
     for sheet in &SHEETS {
-        trial.sheet(sheet.as_bytes(), "X 12\n");
+        trial.sheet(sheet.as_bytes(), MALFORMED);
     }
 }
