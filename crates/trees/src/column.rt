@@ -54,7 +54,8 @@ fn sought_in(source: &mut Source, numbers: &[u32]) -> Result<Vec<u32>, AllocErro
         .collect(heap)
 }
 
-// Two rows that are drawn, the first of them less than the second, where there are such.
+// Two rows that are drawn, the first of them less than the second, where there are such. A loop and no `find_map`, since a
+// column with no rows is to end it at once.
 fn falling_pair(source: &mut Source, numbers: &[u32]) -> Option<(usize, usize)> {
     for _ in 0..1000 {
         let first = source.place(numbers.len())?;

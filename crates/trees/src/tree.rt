@@ -38,7 +38,8 @@ impl Numbers {
             .saturating_sub(1)
     }
 
-    // The last row under each node, from the last node to the first: a node's is that of its last child.
+    // The last row under each node, from the last node to the first: a node's is that of its last child, which
+    // was written before it.
     fn ends(&self, heap: Global, leaves: &[Option<usize>]) -> Result<Vec<usize>, AllocError> {
         let mut ends = vec![in heap; 0usize; leaves.len()]?;
         for (node, leaf) in leaves.iter().enumerate().rev() {
