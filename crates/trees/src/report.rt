@@ -1,20 +1,18 @@
 // The table: a heading for each kind of key, a line for each thing that was tried, and the sum of them all.
 use std::io;
-use trials::{Group, Tally, Widths};
-
-const WIDTHS: Widths = Widths { name: 44, tried: 8 };
+use trials::{Table, Tally, Widths};
 
 #[derive(Drop)]
 pub struct Report<'a> {
     rt: &'a HostRuntime,
-    sum: Tally,
+    table: Table,
 }
 
 impl<'a> Report<'a> {
     pub fn new(rt: &'a HostRuntime) -> Report<'a> {
         Report {
             rt,
-            sum: Tally::new(),
+            table: Table::new(Widths { name: 44, tried: 8 }),
         }
     }
 
@@ -24,16 +22,11 @@ impl<'a> Report<'a> {
 
     // Prints the line of a group, and adds it to the sum.
     pub fn group(&mut self, name: &str, found: Tally) -> io::Result<()> {
-        self.sum += found;
-        let group = Group {
-            name,
-            found,
-            widths: WIDTHS,
-        };
-        println!(self.rt; "  {group}")
+        let line = self.table.line(name, found);
+        println!(self.rt; "  {line}")
     }
 
     pub fn total(&self) -> io::Result<()> {
-        self.rt.println(self.sum)
+        self.rt.println(self.table.sum)
     }
 }
