@@ -4,7 +4,7 @@ ghost use Rattle.answers.specs.Letters.{code};
 
 use std::fmt;
 
-// A call's letter is its field's in the sheet, and so is a column's.
+// A call's letter is its field's in the sheet, and so is a column's; but no line begins with D, and X is no field's.
 #[derive(Clone, Copy, PartialEq, Eq, Debug)]
 pub(crate) enum Letter {
     Malformed,

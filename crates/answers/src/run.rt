@@ -12,7 +12,7 @@ use layers::{Call, StrikeList};
 use sheets::Request;
 use std::alloc::{AllocError, Global};
 
-// The call that a request makes.
+// The call that a request makes. (No `From`: neither type is this crate's.)
 fn call<K: Key>(request: &Request<K>) -> Call<K>
     ensures { result ≡ call_of request.now }
 {

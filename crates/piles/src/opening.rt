@@ -12,7 +12,7 @@ fn rising(heap: Global, len: u32, last: u32) -> Result<Vec<Account>, AllocError>
     (1..len).chain(once(last)).map(Account::from).collect(heap)
 }
 
-// Is the opening declined for this reason, with its number?
+// Is the opening declined with this number? It is compared and not the case, since which number a case has is tried too.
 fn is_declined(answer: Result<(), Decline>, number: u8) -> bool {
     answer.map_err(|why| why.number()) == Err(number)
 }

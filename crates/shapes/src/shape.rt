@@ -49,6 +49,7 @@ fn measured(rows: usize, slots: usize, children: usize) -> Shape
     let chunks = rows.div_ceil(slots);
     let mut levels = 0;
     let mut power = 1;
+    // the least power that is enough: a chain over the powers would need a bound of its own, and be no plainer
     while power < chunks {
         power *= children;
         levels += 1;
