@@ -3,7 +3,9 @@ use Rattle.std.proofs.Common.{◌≡◌, ℕ, zero, suc, ◌+◌, ◌-◌, ◌<�
 use Rattle.std.proofs.lemmas.Bool.{lt-ltb, le-ltb, eq-eqb, ne_eqb, cases_order, cases_eq, cases_lt, cases_Bool, or_left, or_right, false≢true}
 use Rattle.std.proofs.lemmas.List.Edits.{length-insert, get_or-insert_below, get_or-insert_at, get_or-insert_above, length-remove, get_or-remove_below, get_or-remove_above}
 use Rattle.std.specs.List.{insert, remove}
-use Rattle.layers.specs.Table.{Ascending, has, under, search_answer}
+use Rattle.indexes.specs.declared.decline.Decline.{Decline}
+use Rattle.indexes.specs.declared.decline.Decline.TheVariants.{AlreadySo}
+use Rattle.layers.specs.Table.{Ascending, has, under, search_answer, position_answer, gap_answer}
 
 -- the first `at` numbers are below row, and the others are not
 pub record Ranked (l : List ℕ) (row at : ℕ) : Type 0 where
@@ -154,41 +156,36 @@ gap_is l row at le below above =
     let gone : has l row ≡ false = has_none l row (λ k h e. ⊎_elim (λ lt. omega (arith, below k lt)) (λ ge. omega (arith, above k ge h)) (cases_lt k at)) in
     rw gone (ap Err (rank_is (record { within = le; below = below; above = λ k g h. omega (arith, above k g h) })))
 
--- what such an answer shows: the number is there, at its rank; or it is not
+ok_same : (x y : ℕ) → ◌≡◌ {A = Result ℕ Decline} (Ok x) (Ok y) → x ≡ y
+ok_same x y e = cc
+
+ok_err : (x : ℕ) (d : Decline) → ◌≡◌ {A = Result ℕ Decline} (Ok x) (Err d) → ⊥
+ok_err x d e = let z : ◌≡◌ {A = ℕ} 0 1 = cc in omega arith
+
+-- what such an answer shows: the number is there, at its rank
 pub record Stands (l : List ℕ) (row at : ℕ) : Type 0 where
   pub there : has l row ≡ true
   pub rank : at ≡ under l row
   pub within : at < length l
 
-pub stands : (l : List ℕ) (row at : ℕ) → Ascending l → Ok at ≡ search_answer l row → Stands l row at
+pub stands : (l : List ℕ) (row at : ℕ) → Ascending l → Ok at ≡ position_answer l row → Stands l row at
 stands l row at asc e = ⊎_elim
     (λ (t : has l row ≡ true).
-    let r : at ≡ under l row = ok_same at (under l row) (e ∙ ap (λ b. cond b (Ok (under l row)) (Err (under l row))) t) in
+    let r : at ≡ under l row = ok_same at (under l row) (e ∙ ap (λ b. cond b (Ok (under l row)) (Err AlreadySo)) t) in
     record { there = t; rank = r; within = omega (arith, (stands_at l row asc t).0) })
-    (λ (f : has l row ≡ false). absurd (ok_err at (under l row) (e ∙ ap (λ b. cond b (Ok (under l row)) (Err (under l row))) f)))
+    (λ (f : has l row ≡ false). absurd (ok_err at AlreadySo (e ∙ ap (λ b. cond b (Ok (under l row)) (Err AlreadySo)) f)))
     (cases_Bool (has l row))
-  where
-    ok_same : (x y : ℕ) → ◌≡◌ {A = Result ℕ ℕ} (Ok x) (Ok y) → x ≡ y
-    ok_same x y e = cc
 
-    ok_err : (x y : ℕ) → ◌≡◌ {A = Result ℕ ℕ} (Ok x) (Err y) → ⊥
-    ok_err x y e = let z : ◌≡◌ {A = ℕ} 0 1 = cc in omega arith
-
+-- or it is not there, and has its gap
 pub record Fits (l : List ℕ) (row at : ℕ) : Type 0 where
   pub absent : has l row ≡ false
   pub rank : at ≡ under l row
   pub ranked : Ranked l row at
 
-pub fits : (l : List ℕ) (row at : ℕ) → Ascending l → Err at ≡ search_answer l row → Fits l row at
+pub fits : (l : List ℕ) (row at : ℕ) → Ascending l → Ok at ≡ gap_answer l row → Fits l row at
 fits l row at asc e = ⊎_elim
-    (λ (t : has l row ≡ true). absurd (err_ok at (under l row) (e ∙ ap (λ b. cond b (Ok (under l row)) (Err (under l row))) t)))
+    (λ (t : has l row ≡ true). absurd (ok_err at AlreadySo (e ∙ ap (λ b. cond b (Err AlreadySo) (Ok (under l row))) t)))
     (λ (f : has l row ≡ false).
-    let r : at ≡ under l row = err_same at (under l row) (e ∙ ap (λ b. cond b (Ok (under l row)) (Err (under l row))) f) in
+    let r : at ≡ under l row = ok_same at (under l row) (e ∙ ap (λ b. cond b (Err AlreadySo) (Ok (under l row))) f) in
     record { absent = f; rank = r; ranked = subst (Ranked l row) (sym r) (ranked l row asc) })
     (cases_Bool (has l row))
-  where
-    err_same : (x y : ℕ) → ◌≡◌ {A = Result ℕ ℕ} (Err x) (Err y) → x ≡ y
-    err_same x y e = cc
-
-    err_ok : (x y : ℕ) → ◌≡◌ {A = Result ℕ ℕ} (Err x) (Ok y) → ⊥
-    err_ok x y e = let z : ◌≡◌ {A = ℕ} 0 1 = cc in omega arith

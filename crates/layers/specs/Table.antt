@@ -31,6 +31,13 @@ under (x ∷ xs) r = cond (nat_lt x r) 1 0 + under xs r
 abbrev pub search_answer : List ℕ → ℕ → Result ℕ ℕ
 search_answer l row = cond (has l row) (Ok (under l row)) (Err (under l row))
 
+-- where a struck row stands, and where one that is not would go; or that it is so already
+abbrev pub position_answer : List ℕ → ℕ → Result ℕ Decline
+position_answer l row = cond (has l row) (Ok (under l row)) (Err AlreadySo)
+
+abbrev pub gap_answer : List ℕ → ℕ → Result ℕ Decline
+gap_answer l row = cond (has l row) (Err AlreadySo) (Ok (under l row))
+
 -- each number of the list is below n
 abbrev pub Within : List ℕ → ℕ → Type 0
 Within l n = (r : ℕ) → has l r ≡ true → r < n

@@ -1,7 +1,7 @@
 // What is asked of the table of struck rows, and how it changes.
-ghost use Rattle.std.specs.Prelude.{◌≡◌, ◌+◌, ◌-◌, ◌^◌, ◌<◌, ◌≤◌, false, [], nat_le, take};
+ghost use Rattle.std.specs.Prelude.{◌≡◌, ◌+◌, ◌-◌, ◌^◌, ◌<◌, ◌≤◌, false, [], nat_le, take, IfOk};
 ghost use Rattle.std.specs.List.Sorted.{IsSearchInRange};
-ghost use Rattle.layers.specs.Table.{has, under, search_answer, insert_answer, remove_answer, with_number, without_number};
+ghost use Rattle.layers.specs.Table.{has, under, search_answer, position_answer, gap_answer, insert_answer, remove_answer, with_number, without_number};
 ghost use Rattle.layers.specs.Held.{numbers};
 
 use super::{StruckRow, StruckRows};
@@ -34,6 +34,28 @@ impl StruckRows {
     {
         self.as_slice()
             .binary_search_by_key(&row, |struck| struck.number)
+    }
+
+    // Where a row that is struck stands.
+    fn position(&self, row: u32) -> Result<usize, Decline>
+        ensures answers { result ≡ position_answer (numbers self.now) row }
+        ensures within { IfOk result (λ at. at < self.now.len) }
+    {
+        match self.search(row) {
+            Ok(at) => Ok(at),
+            Err(_) => Err(Decline::AlreadySo),
+        }
+    }
+
+    // Where a row that is not struck would go.
+    fn gap(&self, row: u32) -> Result<usize, Decline>
+        ensures answers { result ≡ gap_answer (numbers self.now) row }
+        ensures within { IfOk result (λ at. at ≤ self.now.len) }
+    {
+        match self.search(row) {
+            Err(at) => Ok(at),
+            Ok(_) => Err(Decline::AlreadySo),
+        }
     }
 
     // How many of the numbers are below `row`.
@@ -75,25 +97,21 @@ impl StruckRows {
         ensures answers { result ≡ insert_answer (numbers self.old) row }
         ensures holds { numbers self.new ≡ with_number result (numbers self.old) row }
     {
-        match self.search(row) {
-            Ok(_) => Err(Decline::AlreadySo),
-            Err(_) if self.is_full() => Err(Decline::ListFull),
-            Err(at) => {
-                self.entries.copy_within(at..self.len, at + 1);
-                self.entries[at] = StruckRow { number: row };
-                self.len += 1;
-                Ok(())
-            }
+        let at = self.gap(row)?;
+        if self.is_full() {
+            return Err(Decline::ListFull);
         }
+        self.entries.copy_within(at..self.len, at + 1);
+        self.entries[at] = StruckRow { number: row };
+        self.len += 1;
+        Ok(())
     }
 
     pub(crate) fn remove(&mut self, row: u32) -> Result<(), Decline>
         ensures answers { result ≡ remove_answer (numbers self.old) row }
         ensures holds { numbers self.new ≡ without_number result (numbers self.old) row }
     {
-        let Ok(at) = self.search(row) else {
-            return Err(Decline::AlreadySo);
-        };
+        let at = self.position(row)?;
         self.entries.copy_within(at + 1..self.len, at);
         self.len -= 1;
         Ok(())

@@ -6,51 +6,34 @@ use Rattle.layers.specs.Held.{numbers}
 use Rattle.layers.proofs.Ascending.{Stands, stands, ascending_removed}
 use Rattle.layers.proofs.Entries.{length_numbers, entries_removed}
 use Rattle.layers.proofs.table.StruckRows.remove.Goals as goal
-use Rattle.layers.proofs.table.StruckRows.remove.Goals.{In-Ok, After-copy_within}
+use Rattle.layers.proofs.table.StruckRows.remove.Goals.{In_ok-at, After-copy_within}
 
-found : (c : In-Ok) → Stands (numbers c.args.self.now) c.args.row c.in-Ok.at
-found c = stands (numbers c.args.self.now) c.args.row c.in-Ok.at c.args.self.now.rising (sym c.in-Ok.is ∙ c.search.ensures.answers)
+found : (c : In_ok-at) → Stands (numbers c.args.self.now) c.args.row c.in_ok-at.at
+found c = stands (numbers c.args.self.now) c.args.row c.in_ok-at.at c.args.self.now.rising c.in_ok-at.ensures.answers
 
-comes_out : (c : After-copy_within) → listed (take (c.args.self.now.len - 1) c.copy_within.new.self) ≡ remove (numbers c.args.self.now) c.in-Ok.at
+comes_out : (c : After-copy_within) → listed (take (c.args.self.now.len - 1) c.copy_within.new.self) ≡ remove (numbers c.args.self.now) c.in_ok-at.at
 comes_out c =
     let t = c.args.self.now in
     let size = length_numbers t in
-    let f = found (goal.at.invariant_of-self c).In-Ok in
-    entries_removed t c.in-Ok.at c.copy_within.new.self (omega (arith, f.within)) c.copy_within.ensures.len c.copy_within.ensures.by_index.0 c.copy_within.ensures.by_index.1
-
-pub overflow_add-at : goal.overflow_add-at
-overflow_add-at c =
-    let t = c.args.self.now in
-    let size = length_numbers t in
-    let few = t.few in
-    let f = found (goal.at.overflow_add-at c).In-Ok in
-    omega (arith, f.within)
-
-pub copy_within-requires : goal.copy_within-requires
-copy_within-requires c =
-    let t = c.args.self.now in
-    let size = length_numbers t in
-    let few = t.few in
-    let whole = t.whole in
-    let f = (found (goal.at.copy_within-requires c).In-Ok).within in
-    record { start_le_end = omega arith; in_bounds = omega arith; dest_in_bounds = omega arith; not_exhausted = tt }
+    let f = found (goal.at.invariant_of-self c).In_ok-at in
+    entries_removed t c.in_ok-at.at c.copy_within.new.self (omega (arith, f.within)) c.copy_within.ensures.len c.copy_within.ensures.by_index.0 c.copy_within.ensures.by_index.1
 
 pub invariant_of-self : goal.invariant_of-self
 invariant_of-self c =
     let t = c.args.self.now in
     let size = length_numbers t in
     let few = t.few in
-    let f = (found (goal.at.invariant_of-self c).In-Ok).within in
+    let f = (found (goal.at.invariant_of-self c).In_ok-at).within in
     record {
       few = omega arith;
       whole = c.copy_within.ensures.len ∙ t.whole;
-      rising = subst Ascending (sym (comes_out c)) (ascending_removed (numbers t) c.in-Ok.at t.rising f);
+      rising = subst Ascending (sym (comes_out c)) (ascending_removed (numbers t) c.in_ok-at.at t.rising f);
     }
 
 pub returns : goal.returns
 returns c =
     let t = c.args.self.now in
-    let f = found (goal.at.returns c).In-Ok in
+    let f = found (goal.at.returns c).In_ok-at in
     let there = f.there in
     record {
       answers = rw there;
