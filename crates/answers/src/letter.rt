@@ -1,7 +1,9 @@
 // The letter that a line begins with.
-ghost use Rattle.std.specs.Prelude.{[], ◌∷◌, Some};
+ghost use Rattle.std.specs.Prelude.{◌≡◌, [], ◌∷◌, Some};
 ghost use Rattle.answers.specs.Letters.{code};
+ghost use Rattle.answers.specs.Text.{letter_of};
 
+use sheets::Request;
 use std::fmt;
 
 // A call's letter is its field's in the sheet, and so is a column's; but no line begins with D, and X is no field's.
@@ -13,6 +15,18 @@ pub(crate) enum Letter {
     Strike,
     Restore,
     Place,
+}
+
+impl<K> From<&Request<K>> for Letter {
+    ghost from_gives = { λ request letter. letter ≡ letter_of request.now };
+
+    fn from(request: &Request<K>) -> Letter {
+        match request {
+            Request::Strike(_) => Letter::Strike,
+            Request::Restore(_) => Letter::Restore,
+            Request::Place(_, _) => Letter::Place,
+        }
+    }
 }
 
 impl fmt::Display for Letter {

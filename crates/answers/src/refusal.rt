@@ -19,7 +19,7 @@ impl From<AllocError> for Refusal {
     ghost from_gives = { λ _ r. r ≡ NoMemory };
 
     fn from(_why: AllocError) -> Refusal {
-        Refusal::NoMemory
+        Self::NoMemory
     }
 }
 

@@ -2,7 +2,7 @@
 ghost use Rattle.std.specs.Prelude.{◌≡◌, IfOk, string_bytes};
 ghost use Rattle.layers.specs.Table.{has};
 ghost use Rattle.layers.specs.Views.{out_of, meant_below};
-ghost use Rattle.answers.specs.Text.{call_of, letter_of, lines};
+ghost use Rattle.answers.specs.Text.{call_of, lines};
 
 use crate::letter::Letter;
 use crate::line::Told;
@@ -23,17 +23,6 @@ fn call<K: Key>(request: &Request<K>) -> Call<K>
     }
 }
 
-// The letter that its line begins with.
-fn letter<K: Key>(request: &Request<K>) -> Letter
-    ensures { result ≡ letter_of request.now }
-{
-    match request {
-        Request::Strike(_) => Letter::Strike,
-        Request::Restore(_) => Letter::Restore,
-        Request::Place(_, _) => Letter::Place,
-    }
-}
-
 // The lines of the requests, carried out in their order.
 pub(crate) fn run<K: Key, I: Index<K>>(
     heap: Global,
@@ -44,7 +33,7 @@ pub(crate) fn run<K: Key, I: Index<K>>(
 {
     let mut text = String::new(heap);
     for request in requests {
-        let letter = letter(request);
+        let letter = Letter::from(request);
         let answer = list.answer(&call(request));
         let told = Told(&answer);
         writeln!(text, "{letter}{told}")?;

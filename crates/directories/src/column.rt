@@ -15,7 +15,7 @@ pub(crate) struct Column<'a, K: Key> {
     ghost ordered: { in_order K.Key.before rows.now ≡ true },
 }
 
-// By hand, since over a ghost field the check derives no `Clone`.
+// By hand: the check refuses the derive here (`derive-over-ghost-field`).
 impl<'a, K: Key> Clone for Column<'a, K> {
     ghost use Rattle.std.specs.Prelude.{⊤};
 

@@ -16,10 +16,10 @@ pub struct FrozenIndex<'a, K: Key> {
     pub(crate) column: Column<'a, K>,
     pub(crate) slots: &'a [K],
     ghost agrees: { agree K.Key.before slots.now (slot_keys column.tree.shape column.rows.now) ≡ true },
-    ghost meant: { Meant K.Key.before (frozen K.Key.before column.tree.layout column.rows.now) } by { Prim.hlevel props },
+    pub ghost meant: { Meant K.Key.before (frozen K.Key.before column.tree.layout column.rows.now) } by { Prim.hlevel props },
 }
 
-// By hand, since over a ghost field the check derives no `Clone`.
+// By hand: the check refuses the derive here (`derive-over-ghost-field`).
 impl<'a, K: Key> Clone for FrozenIndex<'a, K> {
     ghost use Rattle.std.specs.Prelude.{⊤};
 
@@ -91,9 +91,7 @@ impl<'a, K: Key> Index<K> for FrozenIndex<'a, K> {
     }
 
     fn row(&self, place: usize, held: &mut K) -> Result<(), Decline> {
-        let Some(row) = self.column.rows.get(place) else {
-            return Err(Decline::NoSuchRow);
-        };
+        let row = self.column.rows.get(place).ok_or(Decline::NoSuchRow)?;
         *held = *row;
         Ok(())
     }

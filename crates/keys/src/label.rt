@@ -18,7 +18,8 @@ impl From<[u8; 16]> for Label {
     }
 }
 
-// What a byte weighs: a lowercase letter as its uppercase one, 32 less; any other byte its value.
+// What a byte weighs: a lowercase letter as its uppercase one, 32 less; any other byte its value. (Written out as the rule
+// states it.)
 pub fn weight(byte: u8) -> u8
     ensures { result ≡ weight_of byte }
 {

@@ -17,6 +17,6 @@ pub struct StrikeList<K: Key, I: Index<K>> {
     below: I,
     struck: StruckRows,
     kind: PhantomData<K>,
-    ghost opened: { I.Index.opened below } by { I.Index.opened_is_fact below },
-    ghost within: { Within (numbers struck) (length (I.Index.means below).rows) },
+    pub ghost opened: { I.Index.opened below } by { I.Index.opened_is_fact below },
+    pub ghost within: { Within (numbers struck) (length (I.Index.means below).rows) },
 }

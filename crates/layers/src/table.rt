@@ -5,7 +5,7 @@ ghost use Rattle.layers.specs.Table.{Ascending, listed};
 mod numbers;
 
 // A row that is out of sight, by its number in the index below.
-#[derive(Clone, Copy)]
+#[derive(Clone, Copy, PartialEq, Eq, Debug)]
 pub struct StruckRow {
     pub number: u32,
 }

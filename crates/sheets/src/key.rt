@@ -34,9 +34,7 @@ impl SheetKey for Account {
     }
 
     fn read(bytes: &[u8]) -> Option<Account> {
-        Some(Account {
-            number: number(bytes)?,
-        })
+        number(bytes).map(Account::from)
     }
 }
 
@@ -51,9 +49,7 @@ impl SheetKey for Label {
     }
 
     fn read(bytes: &[u8]) -> Option<Label> {
-        Some(Label {
-            bytes: bytes.try_into().ok()?,
-        })
+        <[u8; 16]>::try_from(bytes).ok().map(Label::from)
     }
 }
 

@@ -24,6 +24,7 @@ impl Stage {
     {
         match (self, kind) {
             (Stage::Start, Kind::Directory) if is_choice(value) => Some(Stage::Chosen),
+            // widths in bytes as the grammar states them: an account number has 4, a label 16
             (Stage::Chosen, Kind::Accounts) if value.len() % 4 == 0 => Some(Stage::Accounts),
             (Stage::Chosen, Kind::Labels) if value.len() % 16 == 0 => Some(Stage::Labels),
             (Stage::Accounts | Stage::Labels, Kind::Strike | Kind::Restore) if value.len() == 4 => {

@@ -13,6 +13,7 @@ ghost use Rattle.worked.specs.Cases.{Worked, column_a, one_to_40};
 use keys::Account;
 use std::array;
 
+#[derive(Clone, Copy, PartialEq, Eq, Debug)]
 pub struct Columns {
     // column A: with equal rows
     pub equal: [Account; 9],
@@ -20,6 +21,7 @@ pub struct Columns {
     pub rising: [Account; 40],
 }
 
+// Written out key by key, so that the check computes them and a wrong one is refused here.
 fn equal_rows() -> [Account; 9]
     ensures { result ≡ column_a }
 {

@@ -36,7 +36,7 @@ impl<K: Key, I: Index<K>> Index<K> for StrikeList<K, I> {
         let found = self.below.place(key, side);
         Counted {
             answer: self.struck.in_sight(found.answer),
-            comparisons: found.comparisons,
+            ..found
         }
     }
 }

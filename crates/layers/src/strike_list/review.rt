@@ -25,7 +25,8 @@ impl<K: Key, I: Index<K>> StrikeList<K, I> {
 
     // The index below.
     pub fn below(&self) -> &I
-        ensures { result.now ≡ self.now.below }
+        ensures is { result.now ≡ self.now.below }
+        ensures opened { I.Index.opened result.now }
     {
         &self.below
     }

@@ -7,7 +7,7 @@ ghost use Rattle.layers.specs.Held.{numbers};
 use super::{StruckRow, StruckRows};
 use indexes::Decline;
 
-// The rows that may be struck at once.
+// The rows that may be struck at once: as many as the table has entries.
 const MAX_STRUCK: usize = 64;
 
 impl StruckRows {

@@ -24,7 +24,7 @@ loop-request-preserved g c =
       lines_more before m c.args.requests.now c.loop-request.request-index r c.answer-answer.result out (has (out_of c.answer-answer.new.self)) (string_bytes c.loop-request.text) _ c.loop-request-test.true c.request-item.is
           (step.answer ∙ (λ j. reply before (means (inv.0 j)) out (c.call.ensures j)))
           (step.set ∙ (λ j. set_after before (means (inv.0 j)) out (c.call.ensures j)))
-          (c.in_ok-writeln.ensures.bytes ∙ ap (λ x. string_bytes c.loop-request.text ++ line (code x) (told c.answer-answer.result)) c.letter-letter.ensures)
+          (c.in_ok-writeln.ensures.bytes ∙ ap (λ x. string_bytes c.loop-request.text ++ line (code x) (told c.answer-answer.result)) c.from-letter.ensures)
           ∙ inv.1,
     )
 
