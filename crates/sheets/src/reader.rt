@@ -1,9 +1,7 @@
 // The reader of a sheet: its fields, one after the other.
-ghost use Rattle.std.specs.Prelude.{◌≡◌, length, is_some, ◌==◌};
+ghost use Rattle.std.specs.Prelude.{◌≡◌, ◌≤◌, length, is_some, ◌==◌};
 ghost use Rattle.std.specs.Iterator.{at_most};
 ghost use Rattle.std.specs.Option.{option_map};
-ghost use Rattle.sheets.specs.Fields.{told};
-ghost use Rattle.sheets.specs.Grammar.{next, state, opened, front, onward, Reads, ended, left};
 
 use crate::field::{Field, Kind, Part};
 use crate::value::{is_choice, is_sought};
@@ -18,6 +16,8 @@ pub(crate) enum Stage {
 }
 
 impl Stage {
+    ghost use Rattle.sheets.specs.Grammar.{next};
+
     // The stage that follows, if a field of this kind and value is allowed now.
     fn next(self, kind: Kind, value: &[u8]) -> Option<Stage>
         ensures { result ≡ next self kind value.now }
@@ -43,9 +43,13 @@ pub struct Reader<'a> {
     stage: Stage,
     whole: usize,
     rest: &'a [u8],
+    ghost within: { length rest.now ≤ whole },
 }
 
 impl<'a> Reader<'a> {
+    ghost use Rattle.sheets.specs.Fields.{told};
+    ghost use Rattle.sheets.specs.Grammar.{state, opened, front, onward, ended, left};
+
     pub fn new(bytes: &'a [u8]) -> Reader<'a>
         ensures { state result ≡ opened bytes.now }
     {
@@ -75,7 +79,7 @@ impl<'a> Reader<'a> {
         Some(Field::of(
             kind,
             Part {
-                place: self.whole.saturating_sub(after.len()),
+                place: self.whole - after.len(),
                 bytes: value,
             },
         ))
@@ -107,6 +111,8 @@ impl<'a> Reader<'a> {
 
 // It hands on fields until there is none that is allowed.
 impl<'a> Iterator for Reader<'a> {
+    ghost use Rattle.sheets.specs.Grammar.{state, Reads};
+
     type Item = Field<'a>;
 
     ghost next_gives = { Reads };
