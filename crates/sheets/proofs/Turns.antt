@@ -1,10 +1,9 @@
 -- A reader that is asked for a field takes a step of the grammar, so it hands on the fields that are left. Assumes nothing.
-use Rattle.std.proofs.Common.{◌≡◌, ◌<◌, List, [], ◌∷◌, length, is_some, true, Some, None, Option, unwrap_or, sym, refl, ap, ◌∙◌, subst, arith}
+use Rattle.std.proofs.Common.{◌≡◌, List, [], ◌∷◌, length, is_some, true, Some, None, Option, unwrap_or, sym, refl, ap, ◌∙◌, subst, arith}
 use Rattle.std.proofs.lemmas.Bool.Decides.{nat_tests}
 use Rattle.std.proofs.lemmas.Iterator.{YieldsList}
 use Rattle.std.proofs.lemmas.Iterator.Splits.{YieldsList-from_shown_while}
 use Rattle.std.proofs.lemmas.Option.{same_Some, none-some}
-use Rattle.std.specs.Iterator.{at_most, MakesProgress}
 use Rattle.std.specs.Option.{option_map}
 use Rattle.sheets.specs.declared.field.Field.{Field}
 use Rattle.sheets.specs.declared.reader.Reader.{Reader}
@@ -12,7 +11,6 @@ use Rattle.sheets.specs.Fields.{Piece, told}
 use Rattle.sheets.specs.Grammar.{bind, Step, step, State, state, Reads, left}
 use Rattle.sheets.proofs.Left.{left_step, some_step, left_end}
 use Rattle.sheets.proofs.Options.{bind_parts}
-use Rattle.sheets.proofs.Steps.{taken, shorter}
 
 went_by : (o : Option Step) (q : State) (f : Piece) (q' : State) → Some f ≡ option_map (λ t. t.read) o → q' ≡ unwrap_or (option_map (λ t. t.then) o) q → Some (record { read = f; then = q' }) ≡ o
 went_by None q f q' e h = absurd (none-some f (sym e))
@@ -21,15 +19,6 @@ went_by (Some t) q f q' e h = let r = same_Some f t.read e in (λ i. Some (recor
 -- the reader gave a field and went on: a step
 pub went : {r r' : Reader} {f : Field} → Reads r (Some f) r' → Some (record { read = told f; then = state r' }) ≡ step (state r)
 went {r} {r'} {f} h = went_by (step (state r)) (state r) (told f) (state r') h.field h.reader
-
--- and less is left
-less_left : {r r' : Reader} {f : Field} → Reads r (Some f) r' → length (state r').rest < length (state r).rest
-less_left {r} h = shorter (taken (state r).stage (state r).whole (state r).rest _ (sym (went h)))
-
--- so asking a reader for fields comes to an end
-pub progress : (r : Reader) (o : Option Field) (r' : Reader) → Reads r o r' → MakesProgress (λ _. Unit {0}) (λ q. at_most (length (state q).rest)) r o r'
-progress r None r' h = record { on = λ _. tt; keeps = tt; rests = λ _. tt }
-progress r (Some f) r' h = record { on = λ _. (tt, tt, less_left h); keeps = tt; rests = λ _. tt }
 
 stayed_by : (o : Option Step) → None ≡ option_map (λ t. t.read) o → None ≡ o
 stayed_by None e = refl

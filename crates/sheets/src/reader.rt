@@ -1,5 +1,5 @@
 // The reader of a sheet: its fields, one after the other.
-ghost use Rattle.std.specs.Prelude.{◌≡◌, ◌≤◌, length, is_some, ◌==◌};
+ghost use Rattle.std.specs.Prelude.{◌≡◌, ◌<◌, ◌≤◌, IfSome, length, is_some, ◌==◌};
 ghost use Rattle.std.specs.Iterator.{at_most};
 ghost use Rattle.std.specs.Option.{option_map};
 
@@ -64,6 +64,7 @@ impl<'a> Reader<'a> {
     pub fn field(&mut self) -> Option<Field<'a>>
         ensures field { option_map told result ≡ front (state self.old) }
         ensures reader { state self.new ≡ onward (state self.old) }
+        ensures less { IfSome result (λ _. length (state self.new).rest < length (state self.old).rest) }
     {
         let [tag, hi, lo, after @ ..] = self.rest else {
             return None;
