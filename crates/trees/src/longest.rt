@@ -21,7 +21,7 @@ const LAYOUTS: [Layout; 5] = [
 fn too_many(heap: Global, last: u32) -> Result<Vec<Account>, AllocError> {
     (1..1_048_577)
         .chain(iter::once(last))
-        .map(|number| Account::from(number))
+        .map(Account::from)
         .collect(heap)
 }
 
