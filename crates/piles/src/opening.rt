@@ -7,7 +7,8 @@ use std::alloc::{AllocError, Global};
 use std::iter::once;
 use trials::Tally;
 
-// Accounts that rise, but for the last one, which is `last`.
+// Accounts that rise, but for the last one, which is `last`. Not shared with `trees`, since it is one chain of std's: shared
+// it would give numbers, to be mapped again.
 fn rising(heap: Global, len: u32, last: u32) -> Result<Vec<Account>, AllocError> {
     (1..len).chain(once(last)).map(Account::from).collect(heap)
 }

@@ -13,9 +13,9 @@ pub fn ranks_of<K: Ranked>(heap: Global, column: &[K]) -> Result<Vec<i128>, Allo
 // The rows that are left without those struck, whose numbers are places in `rows`.
 pub fn in_sight(heap: Global, rows: &[i128], struck: &[u32]) -> Result<Vec<i128>, AllocError> {
     rows.iter()
-        .enumerate()
-        .filter(|(place, _)| struck.iter().all(|row| *row as usize != *place))
-        .map(|(_, rank)| *rank)
+        .zip(0..)
+        .filter(|(_, place)| !struck.contains(place))
+        .map(|(rank, _)| *rank)
         .collect(heap)
 }
 

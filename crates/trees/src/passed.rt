@@ -30,9 +30,3 @@ pub fn digits(number: usize) -> u32 {
         .find(|places| number >> *places == 0)
         .unwrap_or(usize::BITS)
 }
-
-// At most so many items from a place on.
-pub fn part<T>(items: &[T], from: usize, count: usize) -> &[T] {
-    let end = from.saturating_add(count).min(items.len());
-    items.get(from..end).unwrap_or(&[])
-}

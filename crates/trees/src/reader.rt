@@ -1,10 +1,10 @@
 // The descent through a directory and its ceiling, by the rules, over the column's rows in plain numbers.
 use crate::numbers::Numbers;
-use crate::passed::{Target, digits, part};
+use crate::passed::{Target, digits};
 use crate::tree::Tree;
 use indexes::Layout;
 use std::alloc::{AllocError, Global};
-use trials::{Sought, halved};
+use trials::{Sought, halved, part};
 
 #[derive(Drop)]
 pub struct Reader<'a> {
