@@ -33,19 +33,15 @@ impl Trial {
 
     // One question, held against the reader of every row.
     pub fn question(&mut self, question: &Question<'_>) {
-        let done = text_of(self.heap, question).map(|expected| self.by_hand(
-            question,
-            expected.as_str(),
-        ));
+        let expected = text_of(self.heap, question);
+        let done = expected.map(|text| self.by_hand(question, text.as_str()));
         self.settle(done);
     }
 
     // One question, held against a text that was worked by hand.
     pub fn by_hand(&mut self, question: &Question<'_>, expected: &str) {
-        let done = sheet_of(self.heap, question).map(|sheet| self.sheet(
-            sheet.as_slice(),
-            expected,
-        ));
+        let written = sheet_of(self.heap, question);
+        let done = written.map(|sheet| self.sheet(sheet.as_slice(), expected));
         self.settle(done);
     }
 

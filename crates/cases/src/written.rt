@@ -1,13 +1,11 @@
 // The bytes of a sheet: fields of a one-byte tag, a two-byte length and a value, numbers with the high byte first.
+// Each field is added to the list that there is, in place of a list of its own that is copied into the sheet.
 use crate::question::{Ask, PlainKey, PlainSide, Question};
 use std::alloc::{AllocError, Global};
 
 // The field of a bare column's directory.
 const BARE: [u8; 5] = *b"D\x00\x02P\x00";
 
-// Each function below adds to the bytes that it is given, and gives no list of its own: a sheet is one list, and taking
-// memory may fail.
-//
 // Adds a field; its value has at most 65,535 bytes.
 fn add_field(sheet: &mut Vec<u8>, tag: u8, value: &[u8]) -> Result<(), AllocError> {
     let [.., hi, lo] = value.len().to_be_bytes();

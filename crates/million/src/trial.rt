@@ -43,6 +43,7 @@ impl<'a> Directory<'a> {
     pub fn tried(&self, heap: Global, column: &[Account]) -> Result<Trial<'a>, AllocError> {
         let mut opened = Tally::new();
         let mut slots = vec![in heap; Account::from(0); self.slots]?;
+        // as the trial of `trees` does, which is another program; what they share knows no directory
         opened.note(slot_count(self.layout, column.len()) == Ok(self.slots));
         opened.note(build(column, self.layout, slots.as_mut_slice()).is_ok());
         let mut index = FrozenIndex::empty();

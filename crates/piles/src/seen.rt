@@ -19,7 +19,8 @@ pub fn in_sight(heap: Global, rows: &[i128], struck: &[u32]) -> Result<Vec<i128>
         .collect(heap)
 }
 
-// How many rows come before the key; or, after it, how many the key does not come before.
+// How many rows come before the key; or, after it, how many the key does not come before. By the library's `Side`,
+// which the other trials that ask this do not all share.
 fn place_of(rows: &[i128], sought: i128, side: Side) -> usize {
     rows.iter()
         .filter(|row| match side {
@@ -30,6 +31,7 @@ fn place_of(rows: &[i128], sought: i128, side: Side) -> usize {
 }
 
 // Does each place of an index have the row that is in sight there, and is each place past its end declined?
+// The index is a column or a list above any other, so that it is open is asked for here, in `agrees` and in `above`.
 fn rows_agree<K: Key + Ranked, I: Index<K>>(index: &I, seen: &[i128], spare: &K) -> bool
     requires { I.Index.opened index.now }
 {

@@ -71,7 +71,7 @@ impl<'a> Reader<'a> {
         let numbers = &tree.numbers;
         let mut node = 0usize;
         let mut comparisons = 0u32;
-        // a loop and no `fold`, since each round goes on from the node of the last and adds its comparisons
+        // a loop: a `fold` would carry the node and the comparisons as a pair, by position
         for _ in 0..numbers.levels {
             // a leaf may lie above the last level
             if node < numbers.internal {

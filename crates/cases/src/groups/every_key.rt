@@ -14,7 +14,8 @@ fn sought(heap: Global) -> Result<Vec<Ask>, AllocError> {
         .collect(heap)
 }
 
-// A column in which each number from 1 on stands `run` times.
+// A column in which each number from 1 on stands `run` times. By arithmetic, which is no longer than runs that are flattened,
+// and takes no memory.
 fn in_runs(run: usize) -> [PlainKey; 66] {
     array::from_fn(|row| {
         let number = row.checked_div(run).unwrap_or(0) + 1;
