@@ -88,6 +88,7 @@ fn drawn(rt: &HostRuntime, table: &mut Table) -> io::Result<()> {
 }
 
 fn run(rt: &HostRuntime) -> anyhow::Result<()> {
+    // each program's own, as wide as the names and counts that it prints want
     let mut table = Table::new(Widths { name: 52, tried: 6 });
     built(rt, &mut table)?;
     drawn(rt, &mut table)?;

@@ -51,8 +51,3 @@ pub fn at(key: PlainKey) -> Ask {
 pub fn after(key: PlainKey) -> Ask {
     Ask::Place(PlainSide::After, key)
 }
-
-// The first `len` of these items, or all.
-pub fn front<T>(items: &[T], len: usize) -> &[T] {
-    items.get(0..len).unwrap_or(items)
-}

@@ -2,7 +2,6 @@
 // It shares nothing with the library that it is held against.
 use crate::question::{Ask, PlainKey, PlainSide, Question};
 use std::alloc::{AllocError, Global};
-use std::fmt::Write;
 use trials::halved;
 
 // Why a call or a column is declined, with the number that is printed.
@@ -35,7 +34,8 @@ pub fn rank(key: &PlainKey) -> u128 {
 }
 
 impl PlainSide {
-    // Is the row among those that are counted for the sought key?
+    // Is the row among those that are counted for the sought key? Other trials ask it of the library's `Side`, with which
+    // this reader shares nothing.
     fn passes(self, row: u128, sought: u128) -> bool {
         match self {
             PlainSide::At => row < sought,

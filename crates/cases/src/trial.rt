@@ -3,7 +3,7 @@ use crate::question::Question;
 use crate::reader::text_of;
 use crate::written::sheet_of;
 use answers::answer;
-use std::alloc::Global;
+use std::alloc::{AllocError, Global};
 use trials::Tally;
 
 // What is printed for bytes that are no sheet.
@@ -33,17 +33,22 @@ impl Trial {
 
     // One question, held against the reader of every row.
     pub fn question(&mut self, question: &Question<'_>) {
-        match text_of(self.heap, question) {
-            Ok(expected) => self.by_hand(question, expected.as_str()),
-            Err(_) => self.tally.note(false),
-        }
+        let expected = text_of(self.heap, question);
+        let done = expected.map(|text| self.by_hand(question, text.as_str()));
+        self.settle(done);
     }
 
     // One question, held against a text that was worked by hand.
     pub fn by_hand(&mut self, question: &Question<'_>, expected: &str) {
-        match sheet_of(self.heap, question) {
-            Ok(sheet) => self.sheet(sheet.as_slice(), expected),
-            Err(_) => self.tally.note(false),
+        let written = sheet_of(self.heap, question);
+        let done = written.map(|sheet| self.sheet(sheet.as_slice(), expected));
+        self.settle(done);
+    }
+
+    // Counts want of memory, if there was any.
+    pub fn settle(&mut self, done: Result<(), AllocError>) {
+        if done.is_err() {
+            self.tally.note(false);
         }
     }
 }

@@ -1,4 +1,5 @@
 // The bytes of a sheet: fields of a one-byte tag, a two-byte length and a value, numbers with the high byte first.
+// Each field is added to the list that there is, in place of a list of its own that is copied into the sheet.
 use crate::question::{Ask, PlainKey, PlainSide, Question};
 use std::alloc::{AllocError, Global};
 

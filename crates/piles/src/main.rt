@@ -58,6 +58,7 @@ fn falling(heap: Global) -> Result<Tally, AllocError> {
 
 fn run(rt: &HostRuntime) -> anyhow::Result<()> {
     let heap = rt.alloc();
+    // each program's own, as wide as the names and counts that it prints want
     let mut table = Table::new(Widths { name: 52, tried: 6 });
     rt.println(table.line("strike lists over amounts", amounts(heap)?))?;
     rt.println(table.line("strike lists over pairs", pairs(heap)?))?;

@@ -8,13 +8,19 @@ use std::iter::once;
 use trials::Tally;
 
 // Accounts that rise, but for the last one, which is `last`.
+// Not shared with `trees`: it is one chain of std's, and the contract of a shared one would be longer.
 fn rising(heap: Global, len: u32, last: u32) -> Result<Vec<Account>, AllocError> {
     (1..len).chain(once(last)).map(Account::from).collect(heap)
 }
 
-// Is the opening declined with this number? It is compared and not the case, since which number a case has is tried too.
-fn is_declined(answer: Result<(), Decline>, number: u8) -> bool {
-    answer.map_err(|why| why.number()) == Err(number)
+// Reasons with their numbers, since which number a reason has is tried too.
+const TOO_MANY_ROWS: (Decline, u8) = (Decline::TooManyRows, 2);
+
+const OUT_OF_ORDER: (Decline, u8) = (Decline::OutOfOrder, 3);
+
+// Is the opening declined for this reason, and has that its number?
+fn is_declined(answer: Result<(), Decline>, (why, number): (Decline, u8)) -> bool {
+    answer == Err(why) && why.number() == number
 }
 
 #[derive(Clone, Copy)]
@@ -36,12 +42,15 @@ fn opened<'a>(heap: Global, columns: &Columns<'a>) -> Result<Tally, AllocError> 
     let mut tally = Tally::new();
     let mut index: FrozenIndex<'a, Account> = FrozenIndex::empty();
     agrees(&mut tally, &index, &[], sought);
-    tally.note(is_declined(index.open(columns.falling, Layout::Bare, &[]), 3));
+    tally.note(is_declined(index.open(columns.falling, Layout::Bare, &[]), OUT_OF_ORDER));
     agrees(&mut tally, &index, &[], sought);
     tally.note(index.open(columns.short, Layout::Bare, &[]).is_ok());
-    tally.note(is_declined(index.open(columns.long, Layout::Bare, &[]), 2));
-    tally.note(is_declined(index.open(columns.long_falling, Layout::Bare, &[]), 2));
-    tally.note(is_declined(index.open(columns.falling, Layout::Bare, &[]), 3));
+    tally.note(is_declined(index.open(columns.long, Layout::Bare, &[]), TOO_MANY_ROWS));
+    tally.note(is_declined(
+        index.open(columns.long_falling, Layout::Bare, &[]),
+        TOO_MANY_ROWS,
+    ));
+    tally.note(is_declined(index.open(columns.falling, Layout::Bare, &[]), OUT_OF_ORDER));
     agrees(&mut tally, &index, short.as_slice(), sought);
     tally.note(index.open(columns.other, Layout::Bare, &[]).is_ok());
     agrees(&mut tally, &index, other.as_slice(), sought);

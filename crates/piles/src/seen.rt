@@ -13,13 +13,14 @@ pub fn ranks_of<K: Ranked>(heap: Global, column: &[K]) -> Result<Vec<i128>, Allo
 // The rows that are left without those struck, whose numbers are places in `rows`.
 pub fn in_sight(heap: Global, rows: &[i128], struck: &[u32]) -> Result<Vec<i128>, AllocError> {
     rows.iter()
-        .enumerate()
-        .filter(|(place, _)| struck.iter().all(|row| *row as usize != *place))
-        .map(|(_, rank)| *rank)
+        .zip(0..)
+        .filter(|(_, place)| !struck.contains(place))
+        .map(|(rank, _)| *rank)
         .collect(heap)
 }
 
-// How many rows come before the key; or, after it, how many the key does not come before.
+// How many rows come before the key; or, after it, how many the key does not come before. By the library's `Side`,
+// which the other trials that ask this do not all share.
 fn place_of(rows: &[i128], sought: i128, side: Side) -> usize {
     rows.iter()
         .filter(|row| match side {
@@ -30,6 +31,7 @@ fn place_of(rows: &[i128], sought: i128, side: Side) -> usize {
 }
 
 // Does each place of an index have the row that is in sight there, and is each place past its end declined?
+// The index is a column or a list above any other, so that it is open is asked for here, in `agrees` and in `above`.
 fn rows_agree<K: Key + Ranked, I: Index<K>>(index: &I, seen: &[i128], spare: &K) -> bool
     requires { I.Index.opened index.now }
 {

@@ -25,22 +25,35 @@ impl<'a, K: Made> Build<'a, K> {
     }
 }
 
+// The slots that `build` writes over a column: are there as many as were told, and is each as expected?
+pub fn built<K: Made>(
+    heap: Global,
+    tally: &mut Tally,
+    column: &[K],
+    layout: Layout,
+    expected: &[K],
+) -> Result<Vec<K>, AllocError> {
+    tally.note(slot_count(layout, column.len()) == Ok(expected.len()));
+    let mut slots: Vec<K> = strangers(heap, expected.len())?;
+    tally.note(build(column, layout, slots.as_mut_slice()).is_ok());
+    for (slot, expected) in slots.iter().zip(expected) {
+        tally.note(slot == expected);
+    }
+    Ok(slots)
+}
+
 impl<'a, K: Made> Case<'a, K> {
     // Is each slot the key of its row, and are there as many as were told?
     pub fn slots_written(&self, heap: Global) -> Result<Tally, AllocError> {
         let mut tally = Tally::new();
         let keys = self.column.keys.as_slice();
-        let count = self.slots.len();
-        tally.note(slot_count(self.layout, keys.len()) == Ok(count));
-        let mut slots: Vec<K> = strangers(heap, count)?;
-        tally.note(build(keys, self.layout, slots.as_mut_slice()).is_ok());
-        for (slot, expected) in slots.iter().zip(self.slots.iter()) {
-            tally.note(slot == expected);
-        }
+        built(heap, &mut tally, keys, self.layout, self.slots.as_slice())?;
         Ok(tally)
     }
 
     // Builds with a slot more and a slot less, over rows out of order, and with node sizes that are not allowed.
+    // Not one walk with `misfits`: a build has a number of slots and an opening the slots, and the node sizes are tried
+    // over other rows there.
     pub fn builds_declined(&self, heap: Global) -> Result<Tally, AllocError> {
         let mut tally = Tally::new();
         let fitting = Build {

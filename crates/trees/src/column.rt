@@ -1,6 +1,6 @@
 // A column to try: its numbers, its keys, and the numbers to look up, each with its places.
 use crate::kind::Made;
-use crate::passed::place_of;
+use crate::passed::Target;
 use crate::source::Source;
 use indexes::Side;
 use keys::Key;
@@ -16,10 +16,18 @@ pub struct Lookup {
 
 impl Lookup {
     fn over(rows: &[u32], number: u32) -> Lookup {
+        let place = |side| Target { number, side }.place_in(rows);
         Lookup {
             number,
-            at: place_of(rows, number, Side::At),
-            after: place_of(rows, number, Side::After),
+            at: place(Side::At),
+            after: place(Side::After),
+        }
+    }
+
+    pub fn target(&self, side: Side) -> Target {
+        Target {
+            number: self.number,
+            side,
         }
     }
 
@@ -54,17 +62,12 @@ fn sought_in(source: &mut Source, numbers: &[u32]) -> Result<Vec<u32>, AllocErro
         .collect(heap)
 }
 
-// Two rows that are drawn, the first of them less than the second, where there are such. A loop and no `find_map`, since a
-// column with no rows is to end it at once.
+// Two rows that are drawn, the first of them less than the second, where there are such.
 fn falling_pair(source: &mut Source, numbers: &[u32]) -> Option<(usize, usize)> {
-    for _ in 0..1000 {
-        let first = source.place(numbers.len())?;
-        let second = source.place(numbers.len())?;
-        if first < second && numbers.get(first) < numbers.get(second) {
-            return Some((first, second));
-        }
-    }
-    None
+    let count = numbers.len();
+    (0..1000)
+        .map_while(|_| Some((source.place(count)?, source.place(count)?)))
+        .find(|(first, second)| first < second && numbers.get(*first) < numbers.get(*second))
 }
 
 fn fallen_of<K: Key>(

@@ -18,10 +18,11 @@ const LAYOUTS: [Layout; 5] = [
 ];
 
 // Accounts 1, 2, 3 and so on, 1,048,577 of them, the last of which is `last`.
+// Not shared with `piles`: it is one chain of std's, and the contract of a shared one would be longer.
 fn too_many(heap: Global, last: u32) -> Result<Vec<Account>, AllocError> {
     (1..1_048_577)
         .chain(iter::once(last))
-        .map(|number| Account::from(number))
+        .map(Account::from)
         .collect(heap)
 }
 

@@ -1,12 +1,12 @@
 // Places and comparisons of an index that opened.
 use crate::case::{Case, stranger};
-use crate::declined::{NOT_ALLOWED, is_declined};
+use crate::declined::is_declined;
 use crate::kind::{Made, made_of};
 use crate::opening::Opening;
 use crate::report::Report;
 use crate::source::Source;
 use directories::FrozenIndex;
-use indexes::{Decline, Index, Side};
+use indexes::{Decline, Index, Layout, Side};
 use std::alloc::AllocError;
 use std::io;
 use trials::Tally;
@@ -27,9 +27,7 @@ impl Found {
     }
 
     // Has the index the rows of the column, and no more?
-    fn rows<K: Made, I: Index<K>>(&mut self, index: &I, column: &[K])
-        requires { I.Index.opened index.now }
-    {
+    fn rows<K: Made>(&mut self, index: &FrozenIndex<'_, K>, column: &[K]) {
         self.rows.note(index.len() == column.len());
         let mut held = stranger();
         for (place, row) in column.iter().enumerate() {
@@ -40,16 +38,19 @@ impl Found {
     }
 
     // Each key on either side: the place as counted over all rows, the comparisons as by the reader's descent.
-    fn places<K: Made, I: Index<K>>(&mut self, index: &I, case: &Case<'_, K>, source: &mut Source)
-        requires { I.Index.opened index.now }
-    {
+    fn places<K: Made>(
+        &mut self,
+        index: &FrozenIndex<'_, K>,
+        case: &Case<'_, K>,
+        source: &mut Source,
+    ) {
         let ceiling = case.reader.ceiling();
         self.comparisons.note(index.ceiling() == ceiling);
         for lookup in &case.column.lookups {
             let key = source.key(lookup.number);
             for side in [Side::At, Side::After] {
                 let counted = lookup.place(side);
-                let expected = case.reader.sought(lookup.number, side);
+                let expected = case.reader.sought(lookup.target(side));
                 let answer = index.place(&key, side);
                 self.places
                     .note(answer.answer == counted && counted == expected.place);
@@ -80,7 +81,7 @@ impl Found {
         self.rows.note(is_declined(answer, Decline::OutOfOrder));
         let answer = index.open(&[], layout, falling);
         self.rows.note(is_declined(answer, Decline::SlotCount));
-        let answer = index.open(&[], NOT_ALLOWED[1], slots);
+        let answer = index.open(&[], Layout::Full { slots: 1 }, slots);
         self.rows.note(is_declined(answer, Decline::NodeSize));
         self.rows.note(index.layout() == layout);
         self.rows(&index, column);

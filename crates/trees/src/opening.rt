@@ -9,9 +9,7 @@ use std::alloc::{AllocError, Global};
 const LAYOUT: Layout = Layout::Full { slots: 2 };
 
 // Has the index this row at this place, and at no other?
-fn has<K: Made, I: Index<K>>(index: &I, place: usize, row: &K) -> bool
-    requires { I.Index.opened index.now }
-{
+fn has<K: Made>(index: &FrozenIndex<'_, K>, place: usize, row: &K) -> bool {
     let mut held = stranger();
     index.row(place, &mut held).is_ok()
         && held == *row
@@ -20,9 +18,7 @@ fn has<K: Made, I: Index<K>>(index: &I, place: usize, row: &K) -> bool
 }
 
 // Has the index these rows, no two of them equivalent, and finds each?
-fn has_all<K: Made, I: Index<K>>(index: &I, rows: &[K]) -> bool
-    requires { I.Index.opened index.now }
-{
+fn has_all<K: Made>(index: &FrozenIndex<'_, K>, rows: &[K]) -> bool {
     index.len() == rows.len()
         && rows
             .iter()

@@ -4,7 +4,7 @@ use crate::declined::NOT_ALLOWED;
 use crate::kind::Made;
 use crate::opening::Opening;
 use crate::source::Source;
-use indexes::Decline;
+use indexes::{Decline, Layout};
 use std::alloc::{AllocError, Global};
 use trials::Tally;
 
@@ -38,7 +38,7 @@ impl<'a, K: Made> Case<'a, K> {
             tally.note(Opening { column, ..more }.is_declined(heap, Decline::OutOfOrder)?);
             let opening = Opening {
                 column,
-                layout: NOT_ALLOWED[0],
+                layout: Layout::Full { slots: 0 },
                 ..more
             };
             tally.note(opening.is_declined(heap, Decline::NodeSize)?);

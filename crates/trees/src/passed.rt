@@ -1,19 +1,27 @@
 // Numbers in order, looked at one by one.
 use indexes::Side;
 
-// Is the row passed where this number is sought?
-pub fn is_passed(row: u32, sought: u32, side: Side) -> bool {
-    match side {
-        Side::At => row < sought,
-        Side::After => row <= sought,
-    }
+// A number that is sought, and the side of the rows of this number that is meant.
+#[derive(Clone, Copy, PartialEq, Eq, Debug)]
+pub struct Target {
+    pub number: u32,
+    pub side: Side,
 }
 
-// How many of all rows are passed.
-pub fn place_of(rows: &[u32], sought: u32, side: Side) -> usize {
-    rows.iter()
-        .filter(|row| is_passed(**row, sought, side))
-        .count()
+impl Target {
+    // Is a row with this number passed? `trials` does not know the library's `Side`, and one of its own would want a
+    // `match` here too.
+    pub fn passes(self, row: u32) -> bool {
+        match self.side {
+            Side::At => row < self.number,
+            Side::After => row <= self.number,
+        }
+    }
+
+    // How many of all rows are passed.
+    pub fn place_in(self, rows: &[u32]) -> usize {
+        rows.iter().filter(|row| self.passes(**row)).count()
+    }
 }
 
 // How many binary digits a number has: shifted by so many, nothing is left. The library counts leading zeros.
@@ -21,10 +29,4 @@ pub fn digits(number: usize) -> u32 {
     (0..usize::BITS)
         .find(|places| number >> *places == 0)
         .unwrap_or(usize::BITS)
-}
-
-// At most so many items from a place on.
-pub fn part<T>(items: &[T], from: usize, count: usize) -> &[T] {
-    let end = from.saturating_add(count).min(items.len());
-    items.get(from..end).unwrap_or(&[])
 }

@@ -1,14 +1,15 @@
 // The descent through a directory and its ceiling, by the rules, over the column's rows in plain numbers.
 use crate::numbers::Numbers;
-use crate::passed::{digits, is_passed, part};
+use crate::passed::{Target, digits};
 use crate::tree::Tree;
-use indexes::{Layout, Side};
+use indexes::Layout;
 use std::alloc::{AllocError, Global};
-use trials::{Sought, halved};
+use trials::{Sought, halved, part};
 
 #[derive(Drop)]
 pub struct Reader<'a> {
     rows: &'a [u32],
+    // beside the tree, whose numbers do not say whether it is full or level, as the ceiling does
     layout: Layout,
     // none over a bare column
     tree: Option<Tree>,
@@ -58,30 +59,24 @@ impl<'a> Reader<'a> {
         }
     }
 
-    // The place of a number, and its comparisons.
-    pub fn sought(&self, number: u32, side: Side) -> Sought {
+    // The place of what is sought, and its comparisons.
+    pub fn sought(&self, target: Target) -> Sought {
         match &self.tree {
-            Some(tree) => self.descent(tree, number, side),
-            None => halved(self.rows, |row| is_passed(*row, number, side)),
+            Some(tree) => self.descent(tree, target),
+            None => halved(self.rows, |row| target.passes(*row)),
         }
     }
 
-    // Is the row with this number passed?
-    fn is_row_passed(&self, row: usize, number: u32, side: Side) -> bool {
-        self.rows
-            .get(row)
-            .is_some_and(|row| is_passed(*row, number, side))
-    }
-
-    fn descent(&self, tree: &Tree, number: u32, side: Side) -> Sought {
+    fn descent(&self, tree: &Tree, target: Target) -> Sought {
         let numbers = &tree.numbers;
         let mut node = 0usize;
         let mut comparisons = 0u32;
+        // a loop: a `fold` would carry the node and the comparisons as a pair, by position
         for _ in 0..numbers.levels {
             // a leaf may lie above the last level
             if node < numbers.internal {
                 let found = halved(tree.looked_at(node), |row| {
-                    self.is_row_passed(*row, number, side)
+                    self.rows.get(*row).is_some_and(|row| target.passes(*row))
                 });
                 comparisons = comparisons.saturating_add(found.comparisons);
                 node = numbers.child(node, found.place);
@@ -95,7 +90,7 @@ impl<'a> Reader<'a> {
         };
         let from = chunk.saturating_mul(numbers.slots);
         let found = halved(part(self.rows, from, numbers.slots), |row| {
-            is_passed(*row, number, side)
+            target.passes(*row)
         });
         Sought {
             place: from.saturating_add(found.place),

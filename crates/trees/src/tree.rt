@@ -2,8 +2,8 @@
 //
 // The tables go by the numbers of nodes and slots, as the slots of a directory lie: which number a node has is what is tried.
 use crate::numbers::Numbers;
-use crate::passed::part;
 use std::alloc::{AllocError, Global};
+use trials::part;
 
 #[derive(Drop)]
 pub struct Tree {

@@ -1,6 +1,9 @@
 // Directories worked by hand: their slots, their ceilings, and some descents. The reader is held to them too.
+use crate::builds::built;
+use crate::kind::made_of;
+use crate::passed::Target;
 use crate::reader::Reader;
-use directories::{FrozenIndex, build};
+use directories::FrozenIndex;
 use indexes::{Counted, Index, Layout, Side};
 use keys::Account;
 use shapes::slot_count;
@@ -10,8 +13,7 @@ use trials::{Sought, Tally};
 
 #[derive(Clone, Copy, PartialEq, Eq, Debug)]
 struct Descent {
-    number: u32,
-    side: Side,
+    target: Target,
     found: Sought,
 }
 
@@ -27,18 +29,10 @@ struct Worked<'a> {
 impl Descent {
     fn new(side: Side, number: u32, place: usize, comparisons: u32) -> Descent {
         Descent {
-            number,
-            side,
+            target: Target { number, side },
             found: Sought { place, comparisons },
         }
     }
-}
-
-fn accounts(heap: Global, numbers: &[u32]) -> Result<Vec<Account>, AllocError> {
-    numbers
-        .iter()
-        .map(|number| Account::from(*number))
-        .collect(heap)
 }
 
 impl<'a> Worked<'a> {
@@ -50,17 +44,17 @@ impl<'a> Worked<'a> {
         }
         tally.note(reader.ceiling() == self.ceiling);
         for descent in self.descents {
-            tally.note(reader.sought(descent.number, descent.side) == descent.found);
+            tally.note(reader.sought(descent.target) == descent.found);
         }
     }
 
-    fn descend<I: Index<Account>>(&self, tally: &mut Tally, index: &I)
-        requires { I.Index.opened index.now }
-    {
+    fn descend(&self, tally: &mut Tally, index: &FrozenIndex<'_, Account>) {
         tally.note(index.ceiling() == self.ceiling);
         for descent in self.descents {
-            let found = index.place(&Account::from(descent.number), descent.side);
+            let Target { number, side } = descent.target;
+            let found = index.place(&Account::from(number), side);
             let Sought { place, comparisons } = descent.found;
+            // in the library's type, since the other is a type of the reader, which shares none with it
             let expected = Counted {
                 answer: place,
                 comparisons,
@@ -71,17 +65,12 @@ impl<'a> Worked<'a> {
 
     fn tried(&self, heap: Global) -> Result<Tally, AllocError> {
         let mut tally = Tally::new();
-        let column = accounts(heap, self.rows)?;
-        let expected = accounts(heap, self.slots)?;
-        tally.note(slot_count(self.layout, column.len()) == Ok(expected.len()));
-        let mut slots = vec![in heap; Account::from(0); expected.len()]?;
-        tally.note(build(column.as_slice(), self.layout, slots.as_mut_slice()).is_ok());
-        for (slot, expected) in slots.iter().zip(expected.iter()) {
-            tally.note(slot == expected);
-        }
+        let column: Vec<Account> = made_of(heap, self.rows)?;
+        let column = column.as_slice();
+        let expected = made_of(heap, self.slots)?;
+        let slots = built(heap, &mut tally, column, self.layout, expected.as_slice())?;
         let mut index = FrozenIndex::empty();
-        let opening = index.open(column.as_slice(), self.layout, slots.as_slice());
-        tally.note(opening.is_ok());
+        tally.note(index.open(column, self.layout, slots.as_slice()).is_ok());
         self.descend(&mut tally, &index);
         self.read(&mut tally, &Reader::new(heap, self.rows, self.layout)?);
         Ok(tally)

@@ -1,4 +1,4 @@
--- Marsaglia's xorshift generator of 64 bits: its state, and the numbers that are taken from it.
+-- A xorshift generator of 64 bits: its state, and the numbers that are taken from it.
 use Rattle.std.specs.Prelude.{ℕ, ◌*◌, ◌/◌, ◌%◌, ◌^◌, bit_xor}
 
 -- the state after the next step

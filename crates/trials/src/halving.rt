@@ -1,8 +1,9 @@
-// Rows looked at in a plain loop, by halving: the library's `partition_point` looks at other rows, and counts nothing.
+// Rows looked at in a plain loop, by halving: std's `partition_point` looks at other rows, and counts nothing.
 ghost use Rattle.std.specs.Prelude.{◌≡◌, ◌*◌, ◌+◌, ◌^◌, ◌≤◌, ℕ, true, false, length, slice_get};
 ghost use Rattle.std.specs.Fn.{FnReturnsAt};
 
-// What a halving came to: how many rows stand before the place, and the comparisons.
+// What a halving came to: how many rows stand before the place, and the comparisons. Not the library's `Counted`, since a
+// reader shares no code with what it is held against.
 #[derive(Clone, Copy, PartialEq, Eq, Debug)]
 pub struct Sought {
     pub place: usize,

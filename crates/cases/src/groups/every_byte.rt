@@ -1,8 +1,9 @@
 // Two sheets with each of their bytes changed to every other, and values of every length below 80.
 ghost use Rattle.std.specs.Prelude.{◌<◌, ◌≤◌};
 
-use crate::question::{Kind, front};
+use crate::question::Kind;
 use crate::trial::{MALFORMED, Trial};
+use trials::part;
 
 // A bare column without rows, and a place or a strike.
 const PLACE: [u8; 16] = *b"D\x00\x02P\x00K\x00\x00Q\x00\x05a\x00\x00\x00\x00";
@@ -62,10 +63,11 @@ fn text_if(is_sheet: bool, text: &str) -> &str {
 
 // A column with so many bytes, all zero.
 fn column(trial: &mut Trial, kind: Kind, len: u8) {
+    // room for the longest, of which a part is the sheet: no memory is taken, and so there is no want of it
     let mut sheet = [0; 96];
     sheet[..8].copy_from_slice(&[b'D', 0, 2, b'P', 0, kind.tag(), 0, len]);
     let expected = text_if(len % width(kind) == 0, "");
-    trial.sheet(front(&sheet, 8 + usize::from(len)), expected);
+    trial.sheet(part(&sheet, 0, 8 + usize::from(len)), expected);
 }
 
 // A place behind an empty column, with a value of so many bytes.
@@ -74,7 +76,7 @@ fn place(trial: &mut Trial, kind: Kind, len: u8) {
     let start = [b'D', 0, 2, b'P', 0, kind.tag(), 0, 0, b'Q', 0, len, b'n'];
     sheet[..12].copy_from_slice(&start);
     let expected = text_if(len == 1 + width(kind), "Q 0 0 0\n");
-    trial.sheet(front(&sheet, 11 + usize::from(len)), expected);
+    trial.sheet(part(&sheet, 0, 11 + usize::from(len)), expected);
 }
 
 pub fn tried(trial: &mut Trial) {

@@ -1,18 +1,21 @@
 // Every key from below the first row to above the last, on both sides, over columns of few and of many equal rows.
-use crate::question::{Ask, Kind, PlainKey, Question, after, at, front};
+use crate::question::{Ask, Kind, PlainKey, Question, after, at};
 use crate::trial::Trial;
-use std::array;
+use std::alloc::{AllocError, Global};
+use std::{array, iter};
+use trials::part;
 
 // Both sides of each number below 70, and the largest.
-fn sought() -> [Ask; 141] {
-    array::from_fn(|place| match place {
-        140 => after(PlainKey::Account(u32::MAX)),
-        _ if place % 2 == 0 => at(PlainKey::Account(place as u32 / 2)),
-        _ => after(PlainKey::Account(place as u32 / 2)),
-    })
+fn sought(heap: Global) -> Result<Vec<Ask>, AllocError> {
+    (0..70)
+        .map(PlainKey::Account)
+        .flat_map(|key| [at(key), after(key)])
+        .chain(iter::once(after(PlainKey::Account(u32::MAX))))
+        .collect(heap)
 }
 
-// A column in which each number from 1 on stands `run` times.
+// A column in which each number from 1 on stands `run` times. By arithmetic, which is no longer than runs that are flattened,
+// and takes no memory.
 fn in_runs(run: usize) -> [PlainKey; 66] {
     array::from_fn(|row| {
         let number = row.checked_div(run).unwrap_or(0) + 1;
@@ -20,23 +23,28 @@ fn in_runs(run: usize) -> [PlainKey; 66] {
     })
 }
 
-fn over(trial: &mut Trial, rows: &[PlainKey]) {
-    trial.question(&Question {
-        kind: Kind::Accounts,
-        rows,
-        asks: &sought(),
-    });
+// A column of these rows' first, for each number of them from none to all.
+fn over(trial: &mut Trial, rows: &[PlainKey], asks: &[Ask]) {
+    for len in 0..=rows.len() {
+        trial.question(&Question {
+            kind: Kind::Accounts,
+            rows: part(rows, 0, len),
+            asks,
+        });
+    }
+}
+
+fn every_key(trial: &mut Trial) -> Result<(), AllocError> {
+    let asks = sought(trial.heap)?;
+    for run in [1, 2, 3, 7, 66] {
+        over(trial, &in_runs(run), asks.as_slice());
+    }
+    let ends = [0, 0, u32::MAX, u32::MAX].map(PlainKey::Account);
+    over(trial, &ends, asks.as_slice());
+    Ok(())
 }
 
 pub fn tried(trial: &mut Trial) {
-    for run in [1, 2, 3, 7, 66] {
-        let rows = in_runs(run);
-        for len in 0..=rows.len() {
-            over(trial, front(&rows, len));
-        }
-    }
-    let ends = [0, 0, u32::MAX, u32::MAX].map(PlainKey::Account);
-    for len in 0..=ends.len() {
-        over(trial, front(&ends, len));
-    }
+    let done = every_key(trial);
+    trial.settle(done);
 }

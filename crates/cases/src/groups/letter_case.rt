@@ -89,8 +89,7 @@ pub fn tried(trial: &mut Trial) {
     worked_by_hand(trial);
     lettered_accounts(trial);
     for place in 0..16 {
-        if every_byte_at(trial, place).is_err() {
-            trial.tally.note(false);
-        }
+        let done = every_byte_at(trial, place);
+        trial.settle(done);
     }
 }

@@ -24,6 +24,7 @@ fn rising(kind: Kind, number: u32) -> PlainKey {
     match kind {
         Kind::Accounts => PlainKey::Account(number),
         Kind::Labels => {
+            // by hand, since a label has room for 16 bytes, and a number that is printed may have any length
             let mut bytes = *b"row number  ....";
             bytes[12] = digit(number / 1000);
             bytes[13] = digit(number / 100);
@@ -65,24 +66,55 @@ fn shaped(trial: &mut Trial, shape: Shape) -> Result<(), AllocError> {
     Ok(())
 }
 
-fn sized(trial: &mut Trial, kind: Kind, [rows, strikes, places]: [u32; 3], bytes: usize) {
-    let shape = Shape {
-        kind,
-        rows,
-        strikes,
-        places,
-        bytes,
-    };
-    if shaped(trial, shape).is_err() {
-        trial.tally.note(false);
-    }
-}
+// The most bytes, and one more; with calls of both kinds, of one, and of none.
+const SHAPES: [Shape; 6] = [
+    Shape {
+        kind: Kind::Accounts,
+        rows: 16_000,
+        strikes: 0,
+        places: 191,
+        bytes: 65_536,
+    },
+    Shape {
+        kind: Kind::Accounts,
+        rows: 16_382,
+        strikes: 0,
+        places: 0,
+        bytes: 65_536,
+    },
+    Shape {
+        kind: Kind::Labels,
+        rows: 4_000,
+        strikes: 4,
+        places: 75,
+        bytes: 65_536,
+    },
+    Shape {
+        kind: Kind::Accounts,
+        rows: 16_000,
+        strikes: 7,
+        places: 185,
+        bytes: 65_537,
+    },
+    Shape {
+        kind: Kind::Accounts,
+        rows: 16_377,
+        strikes: 3,
+        places: 0,
+        bytes: 65_537,
+    },
+    Shape {
+        kind: Kind::Labels,
+        rows: 4_000,
+        strikes: 7,
+        places: 74,
+        bytes: 65_537,
+    },
+];
 
 pub fn tried(trial: &mut Trial) {
-    sized(trial, Kind::Accounts, [16_000, 0, 191], 65_536);
-    sized(trial, Kind::Accounts, [16_382, 0, 0], 65_536);
-    sized(trial, Kind::Labels, [4_000, 4, 75], 65_536);
-    sized(trial, Kind::Accounts, [16_000, 7, 185], 65_537);
-    sized(trial, Kind::Accounts, [16_377, 3, 0], 65_537);
-    sized(trial, Kind::Labels, [4_000, 7, 74], 65_537);
+    for shape in SHAPES {
+        let done = shaped(trial, shape);
+        trial.settle(done);
+    }
 }

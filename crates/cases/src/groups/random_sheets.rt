@@ -32,8 +32,7 @@ pub fn tried(trial: &mut Trial, kind: Kind, sheets: u32, calls: u32) {
         kind,
     };
     for _ in 0..sheets {
-        if sheet(trial, &mut draws, calls).is_err() {
-            trial.tally.note(false);
-        }
+        let done = sheet(trial, &mut draws, calls);
+        trial.settle(done);
     }
 }

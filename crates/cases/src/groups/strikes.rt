@@ -1,8 +1,10 @@
 // Strikes and restores, accepted and declined, and the places over the rows that are left in sight.
 use crate::question::{Ask, Kind, PlainKey, Question, after, at};
 use crate::trial::Trial;
+use std::alloc::{AllocError, Global};
 use std::array;
 
+// Each key written out, as in `FOUR`: a constant calls no `map`.
 const NINE: [PlainKey; 9] = [
     PlainKey::Account(10),
     PlainKey::Account(20),
@@ -88,7 +90,7 @@ fn seventy() -> [PlainKey; 70] {
 }
 
 // 64 strikes, and calls on the list that is full then.
-fn filling() -> [Ask; 74] {
+fn filling(heap: Global) -> Result<Vec<Ask>, AllocError> {
     let then = [
         Ask::Strike(64),
         Ask::Strike(0),
@@ -101,24 +103,20 @@ fn filling() -> [Ask; 74] {
         Ask::Restore(70),
         after(PlainKey::Account(70)),
     ];
-    array::from_fn(|call| {
-        if call < 64 {
-            Ask::Strike(call as u32)
-        } else {
-            then[call - 64]
-        }
-    })
+    (0..64).map(Ask::Strike).chain(then).collect(heap)
 }
 
 // Each of 64 strikes is accepted; what follows is declined or accepted as on a full list.
-fn full(trial: &mut Trial) {
+fn full(trial: &mut Trial) -> Result<(), AllocError> {
+    let asks = filling(trial.heap)?;
     let expected =
         "S 0\nS 0\nS 0\nS 0\nS 0\nS 0\nS 0\nS 0\nS 0\nS 0\nS 0\nS 0\nS 0\nS 0\nS 0\nS 0\n\
                     S 0\nS 0\nS 0\nS 0\nS 0\nS 0\nS 0\nS 0\nS 0\nS 0\nS 0\nS 0\nS 0\nS 0\nS 0\nS 0\n\
                     S 0\nS 0\nS 0\nS 0\nS 0\nS 0\nS 0\nS 0\nS 0\nS 0\nS 0\nS 0\nS 0\nS 0\nS 0\nS 0\n\
                     S 0\nS 0\nS 0\nS 0\nS 0\nS 0\nS 0\nS 0\nS 0\nS 0\nS 0\nS 0\nS 0\nS 0\nS 0\nS 0\n\
                     S 8\nS 7\nS 6\nQ 0 1 6\nR 0\nS 0\nS 8\nR 7\nR 6\nQ 0 6 6\n";
-    by_hand(trial, &seventy(), &filling(), expected);
+    by_hand(trial, &seventy(), asks.as_slice(), expected);
+    Ok(())
 }
 
 // Call `number` of those that strike 70 rows in steps of `stride` and restore them, with a place after each.
@@ -146,7 +144,8 @@ fn in_steps(trial: &mut Trial, stride: u32) {
 pub fn tried(trial: &mut Trial) {
     declined(trial);
     not_renumbered(trial);
-    full(trial);
+    let done = full(trial);
+    trial.settle(done);
     for stride in 1..71 {
         in_steps(trial, stride);
     }
