@@ -22,6 +22,7 @@ fn amounts(heap: Global) -> Result<Tally, AllocError> {
     piled(heap, &column, &between, &[2, 4, 7], &[0, 3])
 }
 
+// A key of two conversions, for the columns below: no `From` of one type makes it.
 fn pair((number, cents): (u32, i64)) -> Pair<Account, Amount> {
     Pair {
         first: Account::from(number),
@@ -44,6 +45,7 @@ fn pairs(heap: Global) -> Result<Tally, AllocError> {
     piled(heap, &column, &between, &[3, 0, 6], &[2, 1, 0])
 }
 
+// The same.
 fn reversed(number: u32) -> Reversed<Account> {
     Reversed {
         key: Account::from(number),
