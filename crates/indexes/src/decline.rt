@@ -33,6 +33,7 @@ pub enum Decline {
 }
 
 impl Decline {
+    // A call of its own, since the numbers are part of the format: a caller need not know how the enum stores them.
     pub fn number(&self) -> u8
         ensures { result ≡ number_of self.now }
     {
