@@ -6,7 +6,8 @@ ghost use Rattle.answers.specs.Text.{letter_of};
 use sheets::Request;
 use std::fmt;
 
-// A call's letter is its field's in the sheet, and so is a column's; but no line begins with D, and X is no field's.
+// A call's letter is its field's in the sheet, and so is a column's; but no line begins with D, and X is
+// no field's, so it is no `Kind` of `sheets`.
 #[derive(Clone, Copy, PartialEq, Eq, Debug)]
 pub(crate) enum Letter {
     Malformed,

@@ -23,7 +23,7 @@ use std::io;
 use trial::Trial;
 use trials::{Table, Widths};
 
-// Tries a group, and prints its line.
+// Tries a group, and prints its line. (The runtime and the table stay two: three functions of this file pass them.)
 fn group<F: FnOnce(&mut Trial)>(
     rt: &HostRuntime,
     table: &mut Table,

@@ -35,7 +35,7 @@ pub struct Question<'a> {
 }
 
 impl Kind {
-    // The tag of its column, which is the letter of a declined one too.
+    // The tag of its column, which is the letter of a declined one too. By `match`, as in the table of the rules.
     pub fn tag(self) -> u8 {
         match self {
             Kind::Accounts => b'K',

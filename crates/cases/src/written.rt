@@ -1,5 +1,6 @@
 // The bytes of a sheet: fields of a one-byte tag, a two-byte length and a value, numbers with the high byte first.
-// Each field is added to the list that there is, in place of a list of its own that is copied into the sheet.
+// Fields are added to the sheet's one list; only a column and a sought key are put together first, since a field's length
+// stands before its value.
 use crate::question::{Ask, PlainKey, PlainSide, Question};
 use std::alloc::{AllocError, Global};
 
@@ -21,6 +22,7 @@ fn add_key(bytes: &mut Vec<u8>, key: &PlainKey) -> Result<(), AllocError> {
 }
 
 impl PlainSide {
+    // By `match`, as in the table of the rules.
     fn letter(self) -> u8 {
         match self {
             PlainSide::At => b'a',

@@ -28,7 +28,7 @@ impl<'a, K: Key> FrozenIndex<'a, K> {
         let tree = &self.column.tree;
         let mut node = 0;
         let mut comparisons = 0;
-        // a walk down the nodes, which counts none: the search of each gives the next
+        // a walk down the nodes, and no count: the search of each gives the next
         while node < tree.shape.internal {
             let found = seek(self.keys_of(node), key, side);
             comparisons += found.comparisons;

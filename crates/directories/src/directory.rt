@@ -7,7 +7,8 @@ use crate::column::Column;
 use indexes::{Decline, Layout};
 use keys::Key;
 
-// Writes the slots of a directory over the column; or declines and writes nothing.
+// Writes the slots of a directory over the column; or declines and writes nothing. Column, layout and slots stand apart:
+// here the slots are written to, and `open` keeps them.
 pub fn build<K: Key>(column: &[K], layout: Layout, slots: &mut [K]) -> Result<(), Decline>
     ensures answers { result ≡ building K.Key.before layout column.now (length slots.old) }
     ensures writes { slots.new ≡ kept_or result slots.old (slots_under layout column.now) }

@@ -72,7 +72,7 @@ impl Tree {
     {
         let shape = &self.shape;
         let mut node = self.child_of(place / shape.slots, place % shape.slots);
-        // a walk down the nodes, which counts none: each gives the next
+        // a walk down the nodes, and no count: each gives the next
         while node < shape.internal {
             node = self.child_of(node, shape.children - 1);
         }

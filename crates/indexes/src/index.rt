@@ -28,7 +28,8 @@ pub trait Index<K: Key> {
     // its rows, its comparisons for each key and side, and its ceiling
     ghost means: { Self → Meaning K };
 
-    // what it needs to answer; holds from its opening on
+    // what it needs to answer; holds from its opening on. A member, and not for each type to keep, since an index of
+    // somebody else's may exist before it is ready
     ghost opened: { Self → Type 0 };
 
     // and that this is a fact: there is one way for it to hold
@@ -51,7 +52,8 @@ pub trait Index<K: Key> {
         ensures answers { result ≡ row_answer (means self.now).rows place }
         ensures puts { held.new ≡ slice_index_or (means self.now).rows place held.old };
 
-    // The place of a key: how many rows are passed on that side.
+    // The place of a key: how many rows are passed on that side. Key and side stand apart, as the rules name them: a
+    // struct of the two would be built at each call and taken apart in it.
     fn place(&self, key: &K, side: Side) -> Counted<usize>
         requires { opened self.now }
         ensures place { result.answer ≡ place_of K.Key.before (means self.now).rows key.now side }

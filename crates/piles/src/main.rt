@@ -45,7 +45,7 @@ fn pairs(heap: Global) -> Result<Tally, AllocError> {
     piled(heap, &column, &between, &[3, 0, 6], &[2, 1, 0])
 }
 
-// The same.
+// A key of one conversion and a reversal: no `From` of one type makes it.
 fn reversed(number: u32) -> Reversed<Account> {
     Reversed {
         key: Account::from(number),

@@ -48,7 +48,8 @@ fn rows_agree<K: Key + Ranked, I: Index<K>>(index: &I, seen: &[i128], spare: &K)
     shown && declined(seen.len()) && declined(usize::MAX)
 }
 
-// Holds all answers of an index against the rows that are in sight.
+// Holds all answers of an index against the rows that are in sight. (Rows and keys sought change from call to call, so no
+// struct holds them.)
 pub fn agrees<K: Key + Ranked, I: Index<K>>(
     tally: &mut Tally,
     index: &I,

@@ -105,6 +105,7 @@ impl<'a> Reader<'a> {
         ensures { result ≡ is_some (left (state self.now)) }
     {
         let mut ahead = *self;
+        // a loop without a body: the reader is asked afterwards where it came to, and a chain would take it
         while ahead.next().is_some() {}
         ahead.is_done() && ahead.may_end()
     }

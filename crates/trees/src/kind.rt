@@ -48,6 +48,7 @@ fn other_case(byte: u8) -> u8 {
 impl Made for Label {
     fn made(number: u32, spelling: u32) -> Label {
         let mut bytes = *b"row ??????of day";
+        // by hand: std prints digits, not these eight signs
         let mut left = number;
         for byte in bytes[4..10].iter_mut().rev() {
             *byte = DIGITS[(left % 8) as usize];

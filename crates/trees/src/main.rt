@@ -3,7 +3,8 @@
 // The reader looks at plain numbers one by one and shares no code with the library: `passed` counts places over all
 // rows, `numbers` counts out the shape of a directory, `tree` lays out its leaves and slots, `reader` descends through
 // them. `kind` makes a key of a number, for each kind of key that is tried; `source` draws numbers, keys and layouts.
-// `column` and `case` have what is expected. `builds`, `openings`, `lookups` and `respelled` hold the library to it;
+// `column` and `case` have what is expected, `declined` the reasons, `opening` an index that is open already; `findings`
+// and `report` what was found. `builds`, `openings`, `lookups` and `respelled` hold the library to it;
 // `worked` holds it to numbers worked by hand, and `longest` to the limit of rows.
 // A case that differs changes the table, and with it what the program is expected to print.
 

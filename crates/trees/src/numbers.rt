@@ -1,4 +1,5 @@
 // The numbers of a directory, found by counting: chunk by chunk, level by level, and node by node.
+// The library's `Shape` has the same numbers by powers and division; a reader shares no code with what it is held against.
 use indexes::Layout;
 use std::iter;
 

@@ -1,4 +1,5 @@
-// Rows looked at in a plain loop, by halving: std's `partition_point` looks at other rows, and counts nothing.
+// Rows looked at in a plain loop, by halving: std's `partition_point` leaves open which rows it looks at, and
+// counts nothing.
 ghost use Rattle.std.specs.Prelude.{◌≡◌, ◌*◌, ◌+◌, ◌^◌, ◌≤◌, ℕ, true, false, length, slice_get};
 ghost use Rattle.std.specs.Fn.{FnReturnsAt};
 

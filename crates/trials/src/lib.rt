@@ -1,4 +1,5 @@
-// What programs that try a library share: counting what was tried, drawing numbers, reading every row plainly.
+// What programs that try a library share: counting what was tried, drawing numbers, halving over
+// rows, taking parts of them.
 //
 // `Tally` counts cases, and how many of them came out otherwise than expected; `Table` adds the tallies of groups up, and
 // `Group` is the line of one. What they print is stated byte for byte.

@@ -2,7 +2,7 @@
 ghost use Rattle.std.specs.Prelude.{◌≡◌, ◌==◌, ◌%◌, if◌then◌else◌, ◌<◌, ◌^◌, length, slice_get};
 ghost use Rattle.trials.specs.Generator.{next_state, number_of};
 
-// A xorshift generator. The one that is seeded with 0 draws nothing else.
+// A xorshift generator. One that is seeded with 0 draws 0 for ever.
 #[derive(PartialEq, Eq, Debug, Drop)]
 pub struct Random {
     pub state: u64,

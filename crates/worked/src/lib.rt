@@ -1,8 +1,8 @@
 // The columns worked by hand, and one theorem with all that was worked out over them.
 //
-// `worked_columns` gives the columns of docs/DIRECTORIES.md. Its contract says of them, jointly and of the definitions themselves, the
-// most of the shapes, slots, places, comparisons and ceilings that the rules give as examples: whoever doubts that a definition says
-// what the rules do finds here what it comes to. Nothing else stands on this crate.
+// `worked_columns` gives the columns of docs/DIRECTORIES.md. Its contract says of them, jointly and of the definitions
+// themselves, most of the shapes, slots, places, comparisons and ceilings that the rules give as examples: whoever
+// doubts that a definition says what the rules do finds here what it comes to. Nothing else stands on this crate.
 // It stands on the definitions of shapes (crate `shapes`) and of frozen columns (`directories`).
 
 #![tactic(auto)]

@@ -11,6 +11,7 @@ use keys::Key;
 impl<K: Key, I: Index<K>> Index<K> for StrikeList<K, I> {
     ghost means = { list_means };
 
+    // every strike list answers: its type says that the index below is opened
     ghost opened = { λ _. Unit {0} };
 
     ghost opened_is_fact = { λ _. Prim.hlevel props };

@@ -41,10 +41,7 @@ impl StruckRows {
         ensures answers { result ≡ position_answer (numbers self.now) row }
         ensures within { IfOk result (λ at. at < self.now.len) }
     {
-        match self.search(row) {
-            Ok(at) => Ok(at),
-            Err(_) => Err(Decline::AlreadySo),
-        }
+        self.search(row).map_err(|_| Decline::AlreadySo)
     }
 
     // Where a row that is not struck would go.
@@ -87,6 +84,7 @@ impl StruckRows {
         ensures rank { result ≡ place + under (numbers self.now) result }
         ensures free { has (numbers self.now) result ≡ false }
     {
+        // entry by entry, at most 64: what is asked of one depends on its place, which `partition_point` does not tell
         let at = (0..self.len)
             .find(|at| place + *at < self.entries[*at].number as usize)
             .unwrap_or(self.len);
