@@ -12,7 +12,8 @@ use Rattle.sheets.specs.declared.field.Part.{Part}
 use Rattle.sheets.specs.declared.request.Request.{Request}
 use Rattle.sheets.specs.declared.sheet.Sheet.{Sheet}
 use Rattle.sheets.specs.Fields.{Piece, piece}
-use Rattle.sheets.specs.Grammar.{is, Said, state, left, col, viewed, sheet}
+use Rattle.sheets.specs.Grammar.{is, Said, state, left, sheet}
+use Rattle.sheets.specs.Viewed.{col, viewed}
 use Rattle.sheets.specs.Said.{layout_of, account_spelled, label_spelled, keys_of, requests_of}
 use Rattle.std.proofs.lemmas.Option.{same_Some}
 use Rattle.sheets.proofs.Options.{bind_parts}

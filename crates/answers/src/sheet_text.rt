@@ -1,6 +1,7 @@
 // A whole sheet, from its bytes to its text.
 ghost use Rattle.std.specs.Prelude.{◌≡◌, IfOk, Some, string_bytes};
-ghost use Rattle.sheets.specs.Grammar.{Said, viewed};
+ghost use Rattle.sheets.specs.Grammar.{Said};
+ghost use Rattle.sheets.specs.Viewed.{viewed};
 ghost use Rattle.answers.specs.Printed.{Answers, bare_text, column_text, decline_line};
 
 use crate::letter::Letter;

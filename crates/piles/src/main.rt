@@ -1,7 +1,7 @@
 // Tries columns and strike lists directly, over keys that no sheet has, against a reader of every row.
 //
 // `ranked` gives each kind of key a number of the same order, `seen` is the reader, `pile` builds columns and strike
-// lists above one another, and `opening` opens columns that are declined.
+// lists above one another, and `opening` opens columns that are accepted or declined.
 // Expected values come from the rules, over every row; a case that differs changes what is printed.
 
 #![tactic(auto)]

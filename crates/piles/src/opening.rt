@@ -1,4 +1,4 @@
-// Columns that are too long or out of order, and what the index holds after each opening.
+// Columns that are too long or out of order, and what the index holds after openings that are declined and accepted.
 use crate::seen::{agrees, ranks_of};
 use directories::FrozenIndex;
 use indexes::{Decline, Layout};
@@ -33,7 +33,8 @@ struct Columns<'a> {
     most: &'a [Account],
 }
 
-// What an index holds after each opening, by the numbers of the rows.
+// What an index holds after openings, by the numbers of the rows: it is looked at where one stays that was there, and
+// behind the first and the last.
 fn opened<'a>(heap: Global, columns: &Columns<'a>) -> Result<Tally, AllocError> {
     let short = ranks_of(heap, columns.short)?;
     let other = ranks_of(heap, columns.other)?;

@@ -1,6 +1,4 @@
 // Strike lists over a column, over a reference to it, and over one another.
-ghost use Rattle.std.specs.Prelude.{◌≡◌};
-
 use crate::ranked::Ranked;
 use crate::seen::{agrees, in_sight, ranks_of};
 use directories::FrozenIndex;
@@ -19,7 +17,6 @@ fn above<K: Key + Ranked, I: Index<K>>(
     sought: &[K],
 ) -> StrikeList<K, I>
     requires { I.Index.opened below }
-    ensures { result.below ≡ below }
 {
     let mut list = StrikeList::new(below);
     for row in struck {

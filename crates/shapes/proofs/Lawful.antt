@@ -1,6 +1,6 @@
 -- What holds of a directory's numbers, from the definitions of N, k, U, L, I and x.
 use Rattle.std.proofs.Common.{◌≡◌, ℕ, zero, suc, ◌+◌, ◌-◌, ◌*◌, ◌/◌, ◌%◌, ◌^◌, ◌<◌, ◌≤◌, min, sym, refl, ap, ◌∙◌, inl, inr, mul-le-mul_right, mod-lt, mul-le-mul_left, pow-suc, arith}
-use native.Mathlib.Nat.{pow-zero, lt_of_mul-lt-mul_left, mul-div_cancel_left, div-add-mod, one-le-pow}
+use native.Mathlib.Nat.{pow-zero, lt_of_mul-lt-mul_left, mul-div_cancel_left, div-add-mod}
 use Rattle.std.proofs.lemmas.Bool.{lt-ltb, le-ltb, le-leb, lt-leb, cases_lt}
 use Rattle.shapes.specs.declared.shape.Shape.{Shape}
 use Rattle.shapes.specs.Numbers.{shape, one_chunk, least, levels_of, chunks_of}

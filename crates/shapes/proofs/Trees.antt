@@ -7,7 +7,7 @@ use Rattle.indexes.specs.declared.layout.Layout.TheVariants.{Bare, Full, Level}
 use Rattle.indexes.specs.Seeking.{bits}
 use Rattle.indexes.proofs.Halving.{bits_is}
 use Rattle.shapes.specs.declared.shape.Shape.{Shape}
-use Rattle.shapes.specs.Numbers.{shape, one_chunk, levels_of}
+use Rattle.shapes.specs.Numbers.{shape, levels_of}
 use Rattle.shapes.specs.Layouts.{allowed, shape_under, ceiling_under, shaping}
 use Rattle.shapes.specs.Descent.{most_rounds}
 use Rattle.shapes.specs.Laws.{Tree, LevelPower, Shapely}

@@ -10,7 +10,8 @@ use Rattle.sheets.specs.declared.field.Kind.TheVariants.{Directory, Accounts, La
 use Rattle.sheets.specs.declared.reader.Stage.TheVariants as stage
 use Rattle.sheets.specs.declared.sheet.Sheet.{Sheet}
 use Rattle.sheets.specs.Fields.{Piece, piece, told}
-use Rattle.sheets.specs.Grammar.{is, when, bind, next, State, state, Step, opened, step, ended, left, fields, Said, said, sheet, column_of, col, viewed}
+use Rattle.sheets.specs.Grammar.{is, when, bind, next, State, state, Step, opened, step, ended, left, fields, Said, said, sheet, column_of}
+use Rattle.sheets.specs.Viewed.{col, viewed}
 use Rattle.sheets.specs.Written.{Chooses, by_full, by_level, by_none, Holds, accounts, labels, listed, WrittenAs}
 use Rattle.sheets.proofs.Left.{left_step, left_stop}
 use Rattle.std.proofs.lemmas.Option.{same_Some, none-some}

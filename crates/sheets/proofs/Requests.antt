@@ -10,7 +10,8 @@ use Rattle.sheets.specs.declared.request.Request.{Request}
 use Rattle.sheets.specs.declared.request.Request.TheVariants as request
 use Rattle.sheets.specs.declared.sheet.Sheet.{Sheet}
 use Rattle.sheets.specs.Fields.{Piece}
-use Rattle.sheets.specs.Grammar.{when, Said, state, left, viewed}
+use Rattle.sheets.specs.Grammar.{when, Said, state, left}
+use Rattle.sheets.specs.Viewed.{viewed}
 use Rattle.sheets.specs.Said.{request_as, requests_of}
 use Rattle.sheets.specs.Written.{Calls, strikes, restores, seeks_at, seeks_after, CallsOver}
 use Rattle.std.proofs.lemmas.Option.{same_Some}

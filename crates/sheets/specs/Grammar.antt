@@ -7,10 +7,7 @@ use Rattle.sheets.specs.declared.field.Kind.TheVariants.{Directory, Accounts, La
 use Rattle.sheets.specs.declared.reader.Reader.{Reader}
 use Rattle.sheets.specs.declared.reader.Stage.{Stage}
 use Rattle.sheets.specs.declared.reader.Stage.TheVariants as stage
-use Rattle.sheets.specs.declared.sheet.Column.{Column}
-use Rattle.sheets.specs.declared.sheet.Column.TheVariants as column
-use Rattle.sheets.specs.declared.sheet.Sheet.{Sheet}
-use Rattle.sheets.specs.Fields.{letter, kind, choice, keys, row, sought, Piece, piece, told}
+use Rattle.sheets.specs.Fields.{letter, kind, choice, keys, row, sought, Piece, told}
 
 abbrev pub when : {A : Type 0} → Bool → A → Option A
 when b a = cond b (Some a) None
@@ -127,11 +124,3 @@ sheet bs = bind (fields bs) said
 -- a field, if it is a column
 abbrev pub column_of : Piece → Option Piece
 column_of f = cond (is f.kind Accounts) (Some f) (when (is f.kind Labels) f)
-
-abbrev pub col : Column → Piece
-col (column.Accounts p) = piece Accounts p
-col (column.Labels p) = piece Labels p
-
--- what a sheet that was read says: its calls are those from its reader on
-abbrev pub viewed : Sheet → Option Said
-viewed s = bind (left (state s.calls)) (λ fs. Some (record { directory = piece Directory s.directory; column = col s.column; calls = fs }))

@@ -1,4 +1,5 @@
 pub mod Fields
 pub mod Grammar
 pub mod Said
+pub mod Viewed
 pub mod Written

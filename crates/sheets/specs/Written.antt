@@ -6,7 +6,8 @@ use Rattle.sheets.specs.declared.field.Kind.TheVariants.{Directory, Accounts, La
 use Rattle.sheets.specs.declared.sheet.Sheet.{Sheet}
 use Rattle.sheets.specs.Fields.{letter, full, level, bare, at, after, Piece}
 use Rattle.sheets.specs.declared.request.Request.{Request}
-use Rattle.sheets.specs.Grammar.{Said, viewed}
+use Rattle.sheets.specs.Grammar.{Said}
+use Rattle.sheets.specs.Viewed.{viewed}
 use Rattle.sheets.specs.Said.{requests_of}
 
 -- a directory: F or L and a node size, or P and 0

@@ -1,7 +1,8 @@
 // What a sheet may ask, with its row number or its key.
 ghost use Rattle.std.specs.Prelude.{◌≡◌, Some};
 ghost use Rattle.sheets.specs.Fields.{told};
-ghost use Rattle.sheets.specs.Grammar.{Said, viewed};
+ghost use Rattle.sheets.specs.Grammar.{Said};
+ghost use Rattle.sheets.specs.Viewed.{viewed};
 ghost use Rattle.sheets.specs.Said.{request_of, place_of};
 ghost use Rattle.sheets.specs.Written.{Asks};
 

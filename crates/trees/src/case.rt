@@ -14,7 +14,7 @@ pub struct Case<'a, K> {
     pub slots: Vec<K>,
 }
 
-// A key that no column has; it comes before all of them.
+// A key that no drawn column has: it comes before all their keys.
 pub fn stranger<K: Made>() -> K {
     K::made(0, 0)
 }

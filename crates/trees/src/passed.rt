@@ -23,10 +23,3 @@ impl Target {
         rows.iter().filter(|row| self.passes(**row)).count()
     }
 }
-
-// How many binary digits a number has: shifted by so many, nothing is left. The library counts leading zeros.
-pub fn digits(number: usize) -> u32 {
-    (0..usize::BITS)
-        .find(|places| number >> *places == 0)
-        .unwrap_or(usize::BITS)
-}

@@ -1,6 +1,6 @@
 // The descent through a directory and its ceiling, by the rules, over the column's rows in plain numbers.
 use crate::numbers::Numbers;
-use crate::passed::{Target, digits};
+use crate::passed::Target;
 use crate::tree::Tree;
 use indexes::Layout;
 use std::alloc::{AllocError, Global};
@@ -97,4 +97,11 @@ impl<'a> Reader<'a> {
             comparisons: comparisons.saturating_add(found.comparisons),
         }
     }
+}
+
+// How many binary digits a number has: shifted by so many, nothing is left. The library counts leading zeros.
+fn digits(number: usize) -> u32 {
+    (0..usize::BITS)
+        .find(|places| number >> *places == 0)
+        .unwrap_or(usize::BITS)
 }

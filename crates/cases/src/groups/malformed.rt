@@ -1,4 +1,4 @@
-// Every way in which bytes are no sheet, each written by hand; all of them print one line.
+// Every way but length (that is in `longest`) in which bytes are no sheet, each written by hand; all of them print one line.
 use crate::trial::{MALFORMED, Trial};
 
 const SHEETS: [&str; 74] = [

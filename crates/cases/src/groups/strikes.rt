@@ -119,7 +119,8 @@ fn full(trial: &mut Trial) -> Result<(), AllocError> {
     Ok(())
 }
 
-// Call `number` of those that strike 70 rows in steps of `stride` and restore them, with a place after each.
+// Call `number` of those that strike 70 of the numbers from 0 to 70 in steps of `stride`, and then restore 70 of them,
+// with a place after each.
 fn step(number: u32, stride: u32) -> Ask {
     let row = (number / 2).saturating_mul(stride) % 71;
     let key = PlainKey::Account(number.saturating_mul(29) % 72);

@@ -1,6 +1,6 @@
 -- The column of the sheet is the one that the text is over.
 use Rattle.std.proofs.Common.{◌≡◌, IfOk, string_bytes, ap, ◌∙◌, subst}
-use Rattle.sheets.specs.Grammar.{col}
+use Rattle.sheets.specs.Viewed.{col}
 use Rattle.answers.proofs.Sheets.{says_column, over_accounts, over_labels}
 use Rattle.answers.proofs.sheet_text.bare.Goals as goal
 
