@@ -32,9 +32,6 @@ pub trait Index<K: Key> {
     // somebody else's may exist before it is ready
     ghost opened: { Self → Type 0 };
 
-    // and that this is a fact: there is one way for it to hold
-    ghost opened_is_fact: { (x : Self) → IsProp (opened x) };
-
     // The number of rows.
     fn len(&self) -> usize
         requires { opened self.now }

@@ -7,8 +7,6 @@ impl<K: Key, I: Index<K>> Index<K> for &I {
 
     ghost opened = { λ x. I.Index.opened x.now };
 
-    ghost opened_is_fact = { λ x. I.Index.opened_is_fact x.now };
-
     ghost meant = { λ x o. I.Index.meant x.now o };
 
     fn len(&self) -> usize {
