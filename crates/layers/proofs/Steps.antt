@@ -2,8 +2,6 @@
 use Rattle.std.proofs.Common.{◌≡◌, ℕ, ◌<◌, Bool, true, false, cond, ltb, leb, List, length, Ok, Err, Result, is_ok, sym, refl, ap, ◌∙◌, subst, ⊎_elim, arith}
 use mathlib.Core.Path.{fun_ext}
 use Rattle.std.proofs.lemmas.Bool.{cond-true, cases_Bool, cases_eq, eq-eqb, ne_eqb, ltb-true, false≢true}
-use Rattle.keys.specs.declared.Key as key
-use Rattle.indexes.specs.declared.index.Index as index
 use Rattle.indexes.specs.Meaning.{Meaning}
 use Rattle.indexes.specs.declared.decline.Decline.{Decline}
 use Rattle.indexes.specs.declared.decline.Decline.TheVariants.{NoSuchRow, AlreadySo}
@@ -132,8 +130,8 @@ module _ {K : Type 0} (before : K → K → Bool) (m : Meaning K) where
   quiet out c f = fun_ext (λ q. same_both (is_ok (reply before m out c)) (out q) ∙ sym (ap (λ (s : ℕ → Bool). cond (is_ok (reply before m out c)) (s q) (out q)) f))
 
 -- a step by the call that was matched
-pub called : {K I : Type 0} {k : key.Ghosts K} {i : index.Ghosts I K} {list left : StrikeList K I k i} {a : Reply K} {c c' : Call K} → c ≡ c' → Step list c' a left → Step list c a left
-called {list = list} {left = left} {a = a} e h = subst (λ x. Step list x a left) (sym e) h
+pub called : {K I : Type 0} {before : K → K → Bool} {means : I → Meaning K} {list left : StrikeList K I} {a : Reply K} {c c' : Call K} → c ≡ c' → Step before means list c' a left → Step before means list c a left
+called {before = before} {means = means} {list = list} {left = left} {a = a} e h = subst (λ x. Step before means list x a left) (sym e) h
 
 pub counted_is : {K : Type 0} {p p' n n' : ℕ} → p ≡ p' → n ≡ n' → ◌≡◌ {A = Reply K} (Ok (answer.Place (counted p n))) (Ok (answer.Place (counted p' n')))
 counted_is {p' = p'} {n = n} e f = ap (λ m. Ok (answer.Place (counted m n))) e ∙ ap (λ m. Ok (answer.Place (counted p' m))) f

@@ -1,9 +1,7 @@
 -- The reference by which a strike list is measured: a set of row numbers, fed the calls' arguments and the meaning of
 -- the index below, and nothing of the list's own table. Assumes nothing.
 use Rattle.std.specs.Prelude.{◌≡◌, ℕ, Bool, true, false, cond, List, length, Ok, Err, Result, is_ok, ◌==◌, nat_le, nat_lt, slice_index_or}
-use Rattle.keys.specs.declared.Key as key
 use Rattle.indexes.specs.declared.index.Counted.{Counted}
-use Rattle.indexes.specs.declared.index.Index as index
 use Rattle.indexes.specs.declared.decline.Decline.{Decline}
 use Rattle.indexes.specs.declared.decline.Decline.TheVariants.{NoSuchRow, AlreadySo, ListFull}
 use Rattle.indexes.specs.Meaning.{Meaning, place_of}
@@ -14,7 +12,7 @@ use Rattle.layers.specs.declared.calls.Answer.TheVariants as answer
 use Rattle.layers.specs.declared.strike_list.StrikeList.{StrikeList}
 use Rattle.layers.specs.Sight.{sighted, out_below}
 use Rattle.layers.specs.Table.{has}
-use Rattle.layers.specs.Views.{out_of, meant_below}
+use Rattle.layers.specs.Views.{out_of}
 
 -- a new list has nothing struck
 abbrev pub none_struck : ℕ → Bool
@@ -70,7 +68,7 @@ as_answer (Err d) = Err d
 
 -- one call on a strike list: it was answered as by the reference, the set of struck numbers is the reference's, and the
 -- index below is as it was
-pub record Step {K I : Type 0} {k : key.Ghosts K} {i : index.Ghosts I K} (list : StrikeList K I k i) (c : Call K) (a : Reply K) (left : StrikeList K I k i) : Type 0 where
-  pub answer : a ≡ reply k.before (meant_below list) (has (out_of list)) c
-  pub set : has (out_of left) ≡ set_after k.before (meant_below list) (has (out_of list)) c
+pub record Step {K I : Type 0} (before : K → K → Bool) (means : I → Meaning K) (list : StrikeList K I) (c : Call K) (a : Reply K) (left : StrikeList K I) : Type 0 where
+  pub answer : a ≡ reply before (means list.below) (has (out_of list)) c
+  pub set : has (out_of left) ≡ set_after before (means list.below) (has (out_of list)) c
   pub below : left.below ≡ list.below

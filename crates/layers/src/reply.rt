@@ -1,7 +1,7 @@
 // Any call on a strike list, answered as by a plain set of row numbers.
 ghost use Rattle.std.specs.Prelude.{◌≡◌};
 ghost use Rattle.layers.specs.Table.{has};
-ghost use Rattle.layers.specs.Views.{out_of, meant_below};
+ghost use Rattle.layers.specs.Views.{out_of, Kept};
 ghost use Rattle.layers.specs.Reference.{reply, as_answer, Step};
 ghost use Rattle.layers.specs.declared.calls.Call.{Call};
 
@@ -20,7 +20,8 @@ fn done<K: Key>(res: Result<(), Decline>) -> Result<Answer<K>, Decline>
 impl<K: Key, I: Index<K>> StrikeList<K, I> {
     // The key at a place, put over the one that the caller holds.
     fn read(&self, place: usize, key: K) -> Result<Answer<K>, Decline>
-        ensures { result ≡ reply K.Key.before (meant_below self.now) (has (out_of self.now)) (Call.Row place key) }
+        requires { Kept I.Index.opened I.Index.means self.now }
+        ensures { result ≡ reply K.Key.before (I.Index.means self.now.below) (has (out_of self.now)) (Call.Row place key) }
     {
         let mut held = key;
         self.row(place, &mut held)?;
@@ -29,7 +30,9 @@ impl<K: Key, I: Index<K>> StrikeList<K, I> {
 
     // Carries out one call, and answers it.
     pub fn answer(&mut self, call: &Call<K>) -> Result<Answer<K>, Decline>
-        ensures { Step self.old call.now result self.new }
+        requires { Kept I.Index.opened I.Index.means self.old }
+        ensures step { Step K.Key.before I.Index.means self.old call.now result self.new }
+        ensures opened { Kept I.Index.opened I.Index.means self.new }
     {
         match call {
             Call::Strike(row) => done(self.strike(*row)),

@@ -1,7 +1,6 @@
 // A strike list is an index: its rows are those below that are not struck.
-ghost use Rattle.std.proofs.Props.{props};
 ghost use Rattle.layers.specs.Table.{has};
-ghost use Rattle.layers.specs.Views.{list_means, out_of};
+ghost use Rattle.layers.specs.Views.{list_means, out_of, Kept};
 ghost use Rattle.layers.specs.Hiding.{meant_sighted};
 
 use super::StrikeList;
@@ -9,14 +8,11 @@ use indexes::{Counted, Decline, Index, Side};
 use keys::Key;
 
 impl<K: Key, I: Index<K>> Index<K> for StrikeList<K, I> {
-    ghost means = { list_means };
+    ghost means = { list_means I.Index.means };
 
-    // every strike list answers: its type says that the index below is opened
-    ghost opened = { λ _. Unit {0} };
+    ghost opened = { Kept I.Index.opened I.Index.means };
 
-    ghost opened_is_fact = { λ _. Prim.hlevel props };
-
-    ghost meant = { λ s _. meant_sighted K.Key.lawful (I.Index.meant s.below s.opened) (has (out_of s)) };
+    ghost meant = { λ s o. meant_sighted K.Key.lawful (I.Index.meant s.below o.opens) (has (out_of s)) };
 
     fn len(&self) -> usize {
         self.struck.in_sight(self.below.len())

@@ -1,7 +1,7 @@
 // What a reviewer does with a strike list: rows of the index below are put out of sight and back.
 ghost use Rattle.std.specs.Prelude.{◌≡◌, []};
 ghost use Rattle.layers.specs.Table.{listed, number_answer, with_number, without_number};
-ghost use Rattle.layers.specs.Views.{out_of, rows_below, strike_on, restore_on};
+ghost use Rattle.layers.specs.Views.{out_of, rows_below, strike_on, restore_on, Kept};
 
 use super::StrikeList;
 use crate::table::{StruckRow, StruckRows};
@@ -15,6 +15,7 @@ impl<K: Key, I: Index<K>> StrikeList<K, I> {
         requires { I.Index.opened below }
         ensures below { result.below ≡ below }
         ensures none { out_of result ≡ [] }
+        ensures opened { Kept I.Index.opened I.Index.means result }
     {
         StrikeList {
             below,
@@ -26,7 +27,7 @@ impl<K: Key, I: Index<K>> StrikeList<K, I> {
     // The index below.
     pub fn below(&self) -> &I
         ensures is { result.now ≡ self.now.below }
-        ensures opened { I.Index.opened result.now }
+        ensures opened { Kept I.Index.opened I.Index.means self.now → I.Index.opened result.now }
     {
         &self.below
     }
@@ -40,7 +41,8 @@ impl<K: Key, I: Index<K>> StrikeList<K, I> {
 
     // Does the index below have a row of this number?
     fn below_has(&self, row: u32) -> Result<(), Decline>
-        ensures { result ≡ number_answer (rows_below self.now) row }
+        requires { Kept I.Index.opened I.Index.means self.now }
+        ensures { result ≡ number_answer (rows_below I.Index.means self.now) row }
     {
         if (row as usize) < self.below.len() {
             Ok(())
@@ -51,9 +53,11 @@ impl<K: Key, I: Index<K>> StrikeList<K, I> {
 
     // Puts a row of the index below out of sight.
     pub fn strike(&mut self, row: u32) -> Result<(), Decline>
-        ensures answers { result ≡ strike_on self.old row }
+        requires { Kept I.Index.opened I.Index.means self.old }
+        ensures answers { result ≡ strike_on I.Index.means self.old row }
         ensures holds { out_of self.new ≡ with_number result (out_of self.old) row }
         ensures below { self.new.below ≡ self.old.below }
+        ensures opened { Kept I.Index.opened I.Index.means self.new }
     {
         self.below_has(row)?;
         self.struck.insert(row)
@@ -61,9 +65,11 @@ impl<K: Key, I: Index<K>> StrikeList<K, I> {
 
     // Puts a struck row back in sight.
     pub fn restore(&mut self, row: u32) -> Result<(), Decline>
-        ensures answers { result ≡ restore_on self.old row }
+        requires { Kept I.Index.opened I.Index.means self.old }
+        ensures answers { result ≡ restore_on I.Index.means self.old row }
         ensures holds { out_of self.new ≡ without_number result (out_of self.old) row }
         ensures below { self.new.below ≡ self.old.below }
+        ensures opened { Kept I.Index.opened I.Index.means self.new }
     {
         self.below_has(row)?;
         self.struck.remove(row)

@@ -5,14 +5,17 @@ use Rattle.layers.specs.Table.{Within}
 use Rattle.layers.proofs.Steps.{answered, without_within}
 use Rattle.layers.proofs.strike_list.StrikeList.restore.Goals as goal
 
-pub invariant_of-self : goal.invariant_of-self
-invariant_of-self g c =
+pub returns : goal.returns
+returns g c =
     let s = c.args.self.now in
     let n = length (g.I.Index.means s.below).rows in
     let is = answered n c.args.row _ c.in_ok-below_has.ensures c.remove.ensures.answers in
-    record { opened = s.opened; within = subst (λ l. Within l n) (sym c.remove.ensures.holds) (without_within n (numbers s.struck) c.args.row s.struck.rising _ is s.within) }
-
-pub returns : goal.returns
-returns g c =
-    let n = length (g.I.Index.means c.args.self.now.below).rows in
-    record { answers = answered n c.args.row _ c.in_ok-below_has.ensures c.remove.ensures.answers; holds = c.remove.ensures.holds; below = refl }
+    record {
+      answers = is;
+      holds = c.remove.ensures.holds;
+      below = refl;
+      opened = record {
+        opens = c.requires.opens;
+        within = subst (λ l. Within l n) (sym c.remove.ensures.holds) (without_within n (numbers s.struck) c.args.row s.struck.rising _ is c.requires.within);
+      };
+    }

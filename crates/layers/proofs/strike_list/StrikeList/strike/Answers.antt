@@ -5,14 +5,17 @@ use Rattle.layers.specs.Table.{Within}
 use Rattle.layers.proofs.Steps.{answered, with_within}
 use Rattle.layers.proofs.strike_list.StrikeList.strike.Goals as goal
 
-pub invariant_of-self : goal.invariant_of-self
-invariant_of-self g c =
+pub returns : goal.returns
+returns g c =
     let s = c.args.self.now in
     let n = length (g.I.Index.means s.below).rows in
     let is = answered n c.args.row _ c.in_ok-below_has.ensures c.insert.ensures.answers in
-    record { opened = s.opened; within = subst (λ l. Within l n) (sym c.insert.ensures.holds) (with_within n (numbers s.struck) c.args.row _ is s.within) }
-
-pub returns : goal.returns
-returns g c =
-    let n = length (g.I.Index.means c.args.self.now.below).rows in
-    record { answers = answered n c.args.row _ c.in_ok-below_has.ensures c.insert.ensures.answers; holds = c.insert.ensures.holds; below = refl }
+    record {
+      answers = is;
+      holds = c.insert.ensures.holds;
+      below = refl;
+      opened = record {
+        opens = c.requires.opens;
+        within = subst (λ l. Within l n) (sym c.insert.ensures.holds) (with_within n (numbers s.struck) c.args.row _ is c.requires.within);
+      };
+    }

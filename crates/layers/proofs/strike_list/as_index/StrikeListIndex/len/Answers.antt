@@ -10,7 +10,7 @@ in_sight-requires g c =
     let s = c.args.self.now in
     let h = len_sighted (g.I.Index.means s.below).rows (numbers s.struck) s.struck.rising in
     let e = ap (under (numbers s.struck)) c.len.ensures in
-    let f = (g.met.I.Index.meant s.below s.opened).few in
+    let f = (g.met.I.Index.meant s.below c.requires.opens).few in
     record { few = omega arith; enough = omega arith }
 
 pub returns : goal.returns

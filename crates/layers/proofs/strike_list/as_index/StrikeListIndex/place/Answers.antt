@@ -8,7 +8,7 @@ use Rattle.layers.proofs.strike_list.as_index.StrikeListIndex.place.Goals as goa
 pub in_sight-requires : goal.in_sight-requires
 in_sight-requires g c =
     let s = c.args.self.now in
-    let meant = g.met.I.Index.meant s.below s.opened in
+    let meant = g.met.I.Index.meant s.below c.requires.opens in
     let h = place_sighted g.met.K.Key.lawful meant (numbers s.struck) s.struck.rising c.args.key.now c.args.side in
     let f = place_few g.met.K.Key.lawful meant c.args.key.now c.args.side in
     let p = c.place-found.ensures.place in
@@ -18,7 +18,7 @@ in_sight-requires g c =
 pub returns : goal.returns
 returns g c =
     let s = c.args.self.now in
-    let meant = g.met.I.Index.meant s.below s.opened in
+    let meant = g.met.I.Index.meant s.below c.requires.opens in
     let h = place_sighted g.met.K.Key.lawful meant (numbers s.struck) s.struck.rising c.args.key.now c.args.side in
     let p = c.place-found.ensures.place in
     let e = ap (under (numbers s.struck)) p in

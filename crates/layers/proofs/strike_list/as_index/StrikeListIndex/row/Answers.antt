@@ -19,7 +19,7 @@ returns-then-place-len g c =
 pub unstruck-requires : goal.unstruck-requires
 unstruck-requires g c =
     let s = c.args.self.now in
-    let f = (meant_sighted g.met.K.Key.lawful (g.met.I.Index.meant s.below s.opened) (has (numbers s.struck))).few in
+    let f = (meant_sighted g.met.K.Key.lawful (g.met.I.Index.meant s.below c.requires.opens) (has (numbers s.struck))).few in
     let n = c.len.ensures in
     omega arith
 
