@@ -1,19 +1,17 @@
 -- What is built over a column opens: slots agree with themselves, and there are as many as are wanted.
-use Rattle.std.proofs.Common.{◌≡◌, ℕ, zero, suc, ◌+◌, Bool, true, false, cond, not, ◌&&◌, List, [], ◌∷◌, length, get_or, Ok, Err, Result, nat_lt, sym, refl, ap, ◌∙◌, ⊎_elim, zero-mul, arith}
-use Rattle.std.proofs.lemmas.Bool.{ne_eqb, cases_eq}
+use Rattle.std.proofs.Common.{◌≡◌, ℕ, zero, suc, ◌+◌, Bool, true, cond, not, ◌&&◌, List, [], ◌∷◌, length, get_or, Ok, Err, sym, refl, ap, ◌∙◌, zero-mul, arith}
 use native.Mathlib.Nat.{div-eq_of_lt}
 use Rattle.std.proofs.lemmas.List.FromFn.{length-map-range_with_len}
 use Rattle.keys.specs.Order.{Lawful}
 use Rattle.keys.specs.Orders.{laws}
-use Rattle.indexes.specs.declared.decline.Decline.{Decline}
-use Rattle.indexes.specs.declared.decline.Decline.TheVariants.{NodeSize, TooManyRows, OutOfOrder, SlotCount, SlotDiffers}
+use Rattle.indexes.specs.declared.decline.Decline.TheVariants.{SlotDiffers}
 use Rattle.indexes.specs.declared.layout.Layout.{Layout}
 use Rattle.indexes.specs.declared.layout.Layout.TheVariants.{Bare, Full, Level}
 use Rattle.shapes.specs.Numbers.{chunks_of, shape}
-use Rattle.shapes.specs.Layouts.{allowed, shape_under, slots_in}
-use Rattle.directories.specs.Opening.{in_order, reasons, building, opening}
+use Rattle.shapes.specs.Layouts.{shape_under, slots_in}
+use Rattle.directories.specs.Opening.{reasons, building, opening}
 use Rattle.directories.specs.Slots.{row_of_slot, slots_under, agree}
-use Rattle.directories.proofs.Reasons.{one_more}
+use Rattle.directories.proofs.Reasons.{fit, one_more}
 
 pub agree_self : {K : Type 0} {before : K → K → Bool} → Lawful before → (xs : List K) → agree before xs xs ≡ true
 agree_self lawful [] = refl
@@ -38,27 +36,11 @@ pub slots_counted : {K : Type 0} (layout : Layout) (rows : List K) → length (s
 slots_counted layout [] = sym (no_slots layout)
 slots_counted layout (x ∷ xs) = length-map-range_with_len (λ j. get_or (x ∷ xs) (row_of_slot (shape_under layout (length (x ∷ xs))) j) x) 0 (slots_in (shape_under layout (length (x ∷ xs))))
 
--- where building is accepted, the slots are as many as are counted
-module _ {K : Type 0} (before : K → K → Bool) (layout : Layout) (rows : List K) (n : ℕ) (e : building before layout rows n ≡ Ok tt) where
-  some_reason : (a b c : Bool) → ◌≡◌ {A = Result Unit Decline} (cond a (Err NodeSize) (cond b (Err TooManyRows) (cond c (Err OutOfOrder) (Err SlotCount)))) (Ok tt) → ⊥
-  some_reason true b c e = let z : ◌≡◌ {A = ℕ} 0 1 = cc in omega arith
-  some_reason false true c e = let z : ◌≡◌ {A = ℕ} 0 1 = cc in omega arith
-  some_reason false false true e = let z : ◌≡◌ {A = ℕ} 0 1 = cc in omega arith
-  some_reason false false false e = let z : ◌≡◌ {A = ℕ} 0 1 = cc in omega arith
-
-  pub as_counted : n ≡ slots_in (shape_under layout (length rows))
-  as_counted =
-      ⊎_elim (λ same. same)
-      (λ other. absurd (some_reason (not (allowed layout)) (nat_lt 1048576 (length rows)) (not (in_order before rows))
-      (ap (λ b. cond (not (allowed layout)) (Err NodeSize) (cond (nat_lt 1048576 (length rows)) (Err TooManyRows) (cond (not (in_order before rows)) (Err OutOfOrder) (cond (not b) (Err SlotCount) (Ok tt)))))
-      (sym (ne_eqb n (slots_in (shape_under layout (length rows))) other)) ∙ e)))
-      (cases_eq n (slots_in (shape_under layout (length rows))))
-
 -- what is built opens, with the slots that building writes
 pub built_opens : {K : Type 0} {before : K → K → Bool} → Lawful before → (layout : Layout) (rows : List K) (n : ℕ)
     → building before layout rows n ≡ Ok tt → opening before layout rows (slots_under layout rows) ≡ Ok tt
 built_opens {before = before} lawful layout rows n e =
     let slots = slots_under layout rows in
     one_more (reasons before layout rows (length slots)) (not (agree before slots slots)) SlotDiffers
-    (ap (building before layout rows) (slots_counted layout rows ∙ sym (as_counted before layout rows n e)) ∙ e)
+    (ap (building before layout rows) (slots_counted layout rows ∙ sym (fit before layout rows n e).counted) ∙ e)
     ∙ ap (λ b. cond (not b) (Err SlotDiffers) (Ok tt)) (agree_self lawful slots)

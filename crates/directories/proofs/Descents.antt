@@ -1,7 +1,6 @@
 -- The descent turn by turn, as the code takes it: what is counted so far, and then the rest from here, is the whole.
 use Rattle.std.proofs.Common.{◌≡◌, ℕ, ◌+◌, ◌-◌, ◌*◌, ◌<◌, ◌≤◌, Bool, sym, ap, ◌∙◌, add_assoc, arith}
 use Rattle.std.specs.List.{between}
-use Rattle.keys.specs.declared.Key.{Ghosts}
 use Rattle.keys.specs.Order.{Lawful}
 use Rattle.indexes.specs.declared.index.Counted.{Counted}
 use Rattle.indexes.specs.declared.index.Side.{Side}
@@ -12,6 +11,7 @@ use Rattle.shapes.specs.Descent.{after, at_node, at_leaf, descend, descent}
 use Rattle.shapes.specs.Nodes.{child, chunk_at, slot_row}
 use Rattle.shapes.proofs.Descended.{descend_go, descend_stop, at_leaf_rounds}
 use Rattle.directories.specs.declared.frozen.FrozenIndex.{FrozenIndex}
+use Rattle.directories.specs.Frozen.{Open}
 use Rattle.directories.proofs.TreeFacts.{Facts, facts, Onward, onward}
 use Rattle.directories.proofs.Parts.{node_sought}
 
@@ -25,21 +25,21 @@ pub record Turned (g : Shape) (pass : ℕ → Bool) (count here answer : ℕ) : 
   pub fits : count ≤ 477102080
   pub rest : after count (descend g pass g.internal (child g here answer)) ≡ descent g pass
 
-module _ {K : Type 0} {b : Ghosts K} (lawful : Lawful b.before) (x : FrozenIndex K b) (key : K) (side : Side) where
+module _ {K : Type 0} {before : K → K → Bool} (lawful : Lawful before) (x : FrozenIndex K) (o : Open before x) (key : K) (side : Side) where
   abbrev g : Shape
   g = x.column.tree.shape
 
   abbrev pass : ℕ → Bool
-  pass = passed_at b.before x.column.rows.now key side
+  pass = passed_at before x.column.rows.now key side
 
   pub turned : (count here : ℕ) (found : Counted ℕ) → here < g.internal → count ≤ 7 * here
       → after count (descend g pass g.internal here) ≡ descent g pass
-      → Seeks b.before (between (here * g.slots) (here * g.slots + (g.children - 1)) x.slots.now) key side found
+      → Seeks before (between (here * g.slots) (here * g.slots + (g.children - 1)) x.slots.now) key side found
       → Turned g pass (count + found.comparisons) here found.answer
   turned count here found lt paid rest seeks =
       let f : Facts g = facts x.column.tree in
       let at : Sought = at_node g pass here in
-      let same = node_sought x lawful key side here lt in
+      let same = node_sought x o lawful key side here lt in
       let place : found.answer ≡ at.place = seeks.place ∙ ap (λ (s : Sought). s.place) same in
       let rounds : found.comparisons ≡ at.rounds = seeks.comparisons ∙ ap (λ (s : Sought). s.rounds) same in
       let two : 2 ≤ g.children = f.lawful.two in

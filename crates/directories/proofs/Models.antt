@@ -1,6 +1,5 @@
 -- What a frozen column means holds, under each allowed layout; and an opened index stands on its slots.
 use Rattle.std.proofs.Common.{◌≡◌, ℕ, zero, suc, ◌+◌, ◌-◌, ◌*◌, ◌≤◌, min, Bool, true, List, length, Some, sym, refl, ap, ◌∙◌, subst, mul-le-mul, arith}
-use Rattle.keys.specs.declared.Key.{Ghosts}
 use Rattle.keys.specs.Order.{Lawful}
 use Rattle.indexes.specs.declared.index.Side.{Side}
 use Rattle.indexes.specs.declared.layout.Layout.{Layout}
@@ -19,9 +18,11 @@ use Rattle.shapes.proofs.Descended.{descend_stop}
 use Rattle.shapes.proofs.Sizes.{rows_under}
 use Rattle.shapes.proofs.Trees.{shapely_under, ceiling_is}
 use Rattle.directories.specs.declared.column.Column.{Column}
+use Rattle.directories.specs.declared.frozen.FrozenIndex.{FrozenIndex}
 use Rattle.directories.specs.declared.tree.Tree.{Tree}
+use Rattle.directories.specs.Frozen.{Open, column_of, layout_of}
 use Rattle.directories.specs.Meanings.{sought_under, frozen, AnyLayout}
-use Rattle.directories.proofs.Columns.{ordered_from_test}
+use Rattle.directories.specs.Slots.{slot_keys, agree}
 use Rattle.directories.proofs.TreeFacts.{Facts, facts_under}
 
 -- a descent through no node is one search of the column
@@ -99,26 +100,25 @@ module _ {K : Type 0} (before : K → K → Bool) where
       ∙ (shapely_under layout n fine).tree.descent_finds pass (sought before rows key side).place (subst (λ k. Cut pass k (sought before rows key side).place) (sym e) cut)
       ∙ sought_place before lawful rows up key side
 
-module _ {K : Type 0} {b : Ghosts K} (c : Column K b) where
-  pub column_shaped : c.tree.shape ≡ shape_under c.tree.layout (length c.rows.now)
-  column_shaped = c.tree.shaped ∙ ap (shape_under c.tree.layout) (sym c.all)
+pub column_shaped : {K : Type 0} (c : Column K) → c.tree.shape ≡ shape_under c.tree.layout (length c.rows.now)
+column_shaped c = c.tree.shaped ∙ ap (shape_under c.tree.layout) (sym c.all)
 
-  pub column_ordered : Ordered b.before c.rows.now
-  column_ordered = ordered_from_test b.before c.rows.now c.ordered
+module _ {K : Type 0} (before : K → K → Bool) (x : FrozenIndex K) where
+  -- rows in order, and slots that agree with them
+  pub opened : Ordered before (column_of x) → agree before x.slots.now (slot_keys x.column.tree.shape (column_of x)) ≡ true → Open before x
+  opened up agrees =
+      let t = x.column.tree in
+      record { fine = t.fine; shaped = column_shaped x.column; agrees = agrees; meant = meant before t.layout (column_of x) t.fine (omega (arith, x.column.all, t.few)) up }
 
-  -- a column with its tree means what its layout does
-  pub column_meant : Meant b.before (frozen b.before c.tree.layout c.rows.now)
-  column_meant = meant b.before c.tree.layout c.rows.now c.tree.fine (omega (arith, c.all, c.tree.few)) column_ordered
-
-  -- and the descent through its tree is what its layout means
+  -- the descent through the tree of an opened index is what its layout means
   pub record Placed (key : K) (side : Side) (s : Sought) : Type 0 where
-    pub place : s.place ≡ place_of b.before c.rows.now key side
-    pub rounds : s.rounds ≡ (sought_under b.before c.tree.layout c.rows.now key side).rounds
+    pub place : s.place ≡ place_of before (column_of x) key side
+    pub rounds : s.rounds ≡ (sought_under before (layout_of x) (column_of x) key side).rounds
 
-  pub placed : Lawful b.before → (key : K) (side : Side) → Placed key side (descent c.tree.shape (passed_at b.before c.rows.now key side))
-  placed lawful key side =
-      let e = ap (λ (g : Shape). descent g (passed_at b.before c.rows.now key side)) column_shaped ∙ descent_under b.before c.tree.layout c.rows.now key side in
+  pub placed : Lawful before → Open before x → (key : K) (side : Side) → Placed key side (descent x.column.tree.shape (passed_at before (column_of x) key side))
+  placed lawful o key side =
+      let e = ap (λ (g : Shape). descent g (passed_at before (column_of x) key side)) o.shaped ∙ descent_under before (layout_of x) (column_of x) key side in
       record {
-        place = ap (λ (s : Sought). s.place) e ∙ any_layout b.before lawful c.rows.now column_ordered c.tree.layout c.tree.fine key side;
+        place = ap (λ (s : Sought). s.place) e ∙ any_layout before lawful (column_of x) o.meant.ordered (layout_of x) o.fine key side;
         rounds = ap (λ (s : Sought). s.rounds) e;
       }

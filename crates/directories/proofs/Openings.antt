@@ -1,21 +1,20 @@
 -- An opening, declined or accepted: what it comes to.
 use Rattle.std.proofs.Common.{◌≡◌, ℕ, Bool, true, false, cond, not, List, [], ◌∷◌, map, length, get_or, Ok, Err, Result, ◌==◌, nat_lt, sym, refl, ap, ◌∙◌, subst, zero-mul, arith}
 use Rattle.std.specs.List.{range_with_len}
-use Rattle.keys.specs.declared.Key.{Ghosts}
 use Rattle.keys.specs.Order.{Lawful}
 use Rattle.indexes.specs.declared.decline.Decline.{Decline}
 use Rattle.indexes.specs.declared.decline.Decline.TheVariants.{TooManyRows, OutOfOrder, SlotCount, SlotDiffers}
 use Rattle.indexes.specs.declared.layout.Layout.{Layout}
 use Rattle.indexes.specs.declared.layout.Layout.TheVariants.{Bare}
+use Rattle.indexes.specs.Meaning.{Ordered}
 use Rattle.shapes.specs.Numbers.{one_chunk}
 use Rattle.directories.specs.declared.column.Column.{Column}
 use Rattle.directories.specs.declared.frozen.FrozenIndex.{FrozenIndex}
-use Rattle.directories.specs.Frozen.{column_of, layout_of, Opens}
-use Rattle.directories.specs.Meanings.{AnyLayout}
+use Rattle.directories.specs.Frozen.{column_of, layout_of, Open, Opens}
 use Rattle.directories.specs.Opening.{in_order, reasons, building, opening, bare_opening, kept_or}
 use Rattle.directories.specs.Slots.{row_of_slot, slot_keys, slots_under, agree}
-use Rattle.directories.proofs.Models.{column_shaped, column_ordered, any_layout}
-use Rattle.directories.proofs.Reasons.{one_more, one_more_declined}
+use Rattle.directories.proofs.Models.{column_shaped, opened, any_layout}
+use Rattle.directories.proofs.Reasons.{fit, one_more, one_more_declined}
 
 -- a bare column with no slots
 bare_slots : {K : Type 0} (column : List K) → slots_under Bare column ≡ []
@@ -43,35 +42,43 @@ module _ {K : Type 0} (before : K → K → Bool) (layout : Layout) (column slot
   pub unfit_opening : (why : Decline) → building before layout column (length slots) ≡ Err why → opening before layout column slots ≡ Err why
   unfit_opening why e = one_more_declined (reasons before layout column (length slots)) (not (agree before slots (slots_under layout column))) SlotDiffers why e
 
-module _ {K : Type 0} {b : Ghosts K} (layout : Layout) (column slots : List K) where
   -- declined, and left as it was
-  pub declined : (x x' : FrozenIndex K b) (r : Result Unit Decline) (why : Decline) → r ≡ Err why → opening b.before layout column slots ≡ Err why → x' ≡ x
-      → Opens b.before layout column slots x x' r
+  pub declined : (x x' : FrozenIndex K) (r : Result Unit Decline) (why : Decline) → r ≡ Err why → opening before layout column slots ≡ Err why → x' ≡ x
+      → Opens before layout column slots x x' r
   declined x x' r why is e same =
       record {
         answers = is ∙ sym e;
-        holds = ap (λ (y : FrozenIndex K b). column_of y) same ∙ ap (λ o. kept_or o (column_of x) column) (sym is);
-        under = ap (λ (y : FrozenIndex K b). layout_of y) same ∙ ap (λ o. kept_or o (layout_of x) layout) (sym is);
+        holds = ap column_of same ∙ ap (λ o. kept_or o (column_of x) column) (sym is);
+        under = ap layout_of same ∙ ap (λ o. kept_or o (layout_of x) layout) (sym is);
         leaves = λ _ _. same;
-        bare_answers = bare_answers b.before layout column slots r (is ∙ sym e);
+        opened = λ ok. (let z : ◌≡◌ {A = ℕ} 0 1 = cc in absurd (omega arith));
+        stays = λ o. subst (Open before) (sym same) o;
+        bare_answers = bare_answers r (is ∙ sym e);
         any = λ ok. (let z : ◌≡◌ {A = ℕ} 0 1 = cc in absurd (omega arith));
       }
 
-  module _ (c : Column K b) (e : building b.before layout column (length slots) ≡ Ok tt) (under : c.tree.layout ≡ layout) (holds : c.rows.now ≡ column) where
-    -- or only against a slot
-    pub decided_opening : (ok : Bool) → ok ≡ agree b.before slots (slot_keys c.tree.shape c.rows.now) → opening b.before layout column slots ≡ cond (not ok) (Err SlotDiffers) (Ok tt)
-    decided_opening ok agrees =
-        one_more (reasons b.before layout column (length slots)) (not (agree b.before slots (slots_under layout column))) SlotDiffers e
-        ∙ ap (λ y. cond (not y) (Err SlotDiffers) (Ok tt))
-        ((λ j. agree b.before slots (slots_under (sym under j) (sym holds j))) ∙ ap (λ s. agree b.before slots (slot_keys s c.rows.now)) (sym (column_shaped c)) ∙ sym agrees)
+  -- or only against a slot
+  pub decided_opening : (c : Column K) → building before layout column (length slots) ≡ Ok tt → c.tree.layout ≡ layout → c.rows.now ≡ column
+      → (ok : Bool) → ok ≡ agree before slots (slot_keys c.tree.shape c.rows.now) → opening before layout column slots ≡ cond (not ok) (Err SlotDiffers) (Ok tt)
+  decided_opening c e under holds ok agrees =
+      one_more (reasons before layout column (length slots)) (not (agree before slots (slots_under layout column))) SlotDiffers e
+      ∙ ap (λ y. cond (not y) (Err SlotDiffers) (Ok tt))
+      ((λ j. agree before slots (slots_under (sym under j) (sym holds j))) ∙ ap (λ s. agree before slots (slot_keys s c.rows.now)) (sym (column_shaped c)) ∙ sym agrees)
 
-    pub accepted : Lawful b.before → (x x' : FrozenIndex K b) → x'.column ≡ c → true ≡ agree b.before slots (slot_keys c.tree.shape c.rows.now) → Opens b.before layout column slots x x' (Ok tt)
-    accepted lawful x x' held agrees =
-        record {
-          answers = sym (decided_opening true agrees);
-          holds = ap (λ (d : Column K b). d.rows.now) held ∙ holds;
-          under = ap (λ (d : Column K b). d.tree.layout) held ∙ under;
-          leaves = λ why bad. (let z : ◌≡◌ {A = ℕ} 0 1 = cc in absurd (omega arith));
-          bare_answers = bare_answers b.before layout column slots (Ok tt) (sym (decided_opening true agrees));
-          any = λ _. subst (AnyLayout b.before) holds (any_layout b.before lawful c.rows.now (column_ordered c));
-        }
+pub accepted : {K : Type 0} (before : K → K → Bool) → Lawful before → (layout : Layout) (column : List K) (x x' : FrozenIndex K)
+    → building before layout column (length x'.slots.now) ≡ Ok tt → layout_of x' ≡ layout → column_of x' ≡ column
+    → true ≡ agree before x'.slots.now (slot_keys x'.column.tree.shape (column_of x')) → Opens before layout column x'.slots.now x x' (Ok tt)
+accepted before lawful layout column x x' e under holds agrees =
+    let ordered = (fit before layout column (length x'.slots.now) e).ordered in
+    let open' : Open before x' = opened before x' (subst (Ordered before) (sym holds) ordered) (sym agrees) in
+    let answers = sym (decided_opening before layout column x'.slots.now x'.column e under holds true agrees) in
+    record {
+      answers = answers;
+      holds = holds;
+      under = under;
+      leaves = λ why bad. (let z : ◌≡◌ {A = ℕ} 0 1 = cc in absurd (omega arith));
+      opened = λ _. open';
+      stays = λ _. open';
+      bare_answers = bare_answers before layout column x'.slots.now (Ok tt) answers;
+      any = λ _. any_layout before lawful column ordered;
+    }

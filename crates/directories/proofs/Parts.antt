@@ -3,7 +3,6 @@ use Rattle.std.proofs.Common.{◌≡◌, ℕ, suc, ◌+◌, ◌-◌, ◌*◌, �
 use lib.Arith.{digits_div, digits_mod}
 use Rattle.std.specs.List.{between}
 use Rattle.std.proofs.lemmas.List.Edits.{length-between, get_or-between}
-use Rattle.keys.specs.declared.Key.{Ghosts}
 use Rattle.keys.specs.Order.{Lawful, equivalent_under}
 use Rattle.keys.specs.Orders.{laws}
 use Rattle.indexes.specs.declared.index.Counted.{Counted}
@@ -18,6 +17,7 @@ use Rattle.shapes.specs.Layouts.{slots_in}
 use Rattle.shapes.specs.Nodes.{size, slot_row}
 use Rattle.directories.specs.declared.column.Column.{Column}
 use Rattle.directories.specs.declared.frozen.FrozenIndex.{FrozenIndex}
+use Rattle.directories.specs.Frozen.{Open}
 use Rattle.directories.specs.Slots.{row_of_slot, slot_keys, chunk_rows}
 use Rattle.directories.proofs.TreeFacts.{Facts, facts, chunk}
 use Rattle.directories.proofs.SlotKeys.{slot_key, length_slot_keys, agree_at, agree_length}
@@ -29,22 +29,22 @@ part_sought before key side part pass s long same =
     ap (λ n. halving (passed_at before part key side) n 0 n) long
     ∙ halving_same (passed_at before part key side) pass s s 0 s (omega arith) same
 
-module _ {K : Type 0} {b : Ghosts K} (c : Column K b) (key : K) (side : Side) where
+module _ {K : Type 0} (before : K → K → Bool) (c : Column K) (key : K) (side : Side) where
   abbrev here : Shape
   here = c.tree.shape
 
   abbrev pass : ℕ → Bool
-  pass = passed_at b.before c.rows.now key side
+  pass = passed_at before c.rows.now key side
 
   -- a leaf's chunk
-  chunk_sought : (q : ℕ) → q < here.chunks → sought b.before (chunk_rows here c.rows.now q) key side ≡ node_seek (λ i. pass (q * here.slots + i)) (size here q)
+  chunk_sought : (q : ℕ) → q < here.chunks → sought before (chunk_rows here c.rows.now q) key side ≡ node_seek (λ i. pass (q * here.slots + i)) (size here q)
   chunk_sought q h =
       let k = chunk c.tree q h in
       let from : ℕ = q * here.slots in
       let to : ℕ = from + size here q in
       let fit : to ≤ length c.rows.now = omega (arith, k.ends, c.all) in
-      part_sought b.before key side (chunk_rows here c.rows.now q) _ (size here q) (length-between c.rows.now from to fit ∙ omega arith)
-      (λ i less. ap (passed b.before key side) (get_or-between c.rows.now from to i key (omega arith)))
+      part_sought before key side (chunk_rows here c.rows.now q) _ (size here q) (length-between c.rows.now from to fit ∙ omega arith)
+      (λ i less. ap (passed before key side) (get_or-between c.rows.now from to i key (omega arith)))
 
   -- what the search of a chunk answers is what the descent has at its leaf
   pub record Leaf (q : ℕ) (found : Counted ℕ) : Type 0 where
@@ -53,10 +53,10 @@ module _ {K : Type 0} {b : Ghosts K} (c : Column K b) (key : K) (side : Side) wh
     pub starts : q * here.slots ≤ 1048576
     pub fits : q * here.slots + found.answer ≤ 1048576
 
-  pub leaf : (part : List K) (found : Counted ℕ) (q : ℕ) → q < here.chunks → part ≡ chunk_rows here c.rows.now q → Seeks b.before part key side found → Leaf q found
+  pub leaf : (part : List K) (found : Counted ℕ) (q : ℕ) → q < here.chunks → part ≡ chunk_rows here c.rows.now q → Seeks before part key side found → Leaf q found
   leaf part found q h is seeks =
       let k = chunk c.tree q h in
-      let e = ap (λ p. sought b.before p key side) is ∙ chunk_sought q h in
+      let e = ap (λ p. sought before p key side) is ∙ chunk_sought q h in
       let at : found.answer ≡ (node_seek (λ i. pass (q * here.slots + i)) (size here q)).place = seeks.place ∙ ap (λ (s : Sought). s.place) e in
       let within = (search_boundary (λ i. pass (q * here.slots + i)) (size here q)).within in
       record {
@@ -75,7 +75,7 @@ passed_alike before lawful key After a b e = ap not ((laws lawful).equivalent_af
 slot_place : (g : Shape) (b i : ℕ) → i < g.slots → row_of_slot g (b * g.slots + i) ≡ slot_row g b i
 slot_place g b i h = (λ j. slot_row g (digits_div b h j) (digits_mod b h j))
 
-module _ {K : Type 0} {b : Ghosts K} (x : FrozenIndex K b) where
+module _ {K : Type 0} {before : K → K → Bool} (x : FrozenIndex K) (o : Open before x) where
   abbrev g : Shape
   g = x.column.tree.shape
 
@@ -102,12 +102,12 @@ module _ {K : Type 0} {b : Ghosts K} (x : FrozenIndex K b) where
       let two : 2 ≤ g.children = f.lawful.two in
       let past : suc n * g.slots ≤ g.internal * g.slots = mul-le-mul_right g.slots h in
       let most : g.internal * g.slots ≤ g.internal * 64 = mul-le-mul_left g.internal narrow in
-      let long : length slots ≡ slots_in g = agree_length b.before slots (slot_keys g rows) x.agrees ∙ length_slot_keys x.column.tree rows x.column.all in
+      let long : length slots ≡ slots_in g = agree_length before slots (slot_keys g rows) o.agrees ∙ length_slot_keys x.column.tree rows x.column.all in
       let small : g.internal ≤ 1048576 = omega (arith, f.internal_few, f.rows_few) in
       record { from_in = omega arith; to_in = omega arith; few = omega arith; looked = omega arith; one = omega arith }
 
-  pub node_sought : Lawful b.before → (key : K) (side : Side) (n : ℕ) → n < g.internal
-      → sought b.before (between (n * g.slots) (n * g.slots + (g.children - 1)) slots) key side ≡ at_node g (passed_at b.before rows key side) n
+  pub node_sought : Lawful before → (key : K) (side : Side) (n : ℕ) → n < g.internal
+      → sought before (between (n * g.slots) (n * g.slots + (g.children - 1)) slots) key side ≡ at_node g (passed_at before rows key side) n
   node_sought lawful key side n h =
       let f : Facts g = facts x.column.tree in
       let k : Node n = node n h in
@@ -117,10 +117,10 @@ module _ {K : Type 0} {b : Ghosts K} (x : FrozenIndex K b) where
       let to : ℕ = n * g.slots + (g.children - 1) in
       let long : length (between from to slots) ≡ g.children - 1 = length-between slots from to k.to_in ∙ omega arith in
       let past : suc n * g.slots ≤ g.internal * g.slots = mul-le-mul_right g.slots h in
-      part_sought b.before key side (between from to slots) (λ i. passed_at b.before rows key side (slot_row g n i)) (g.children - 1) long
+      part_sought before key side (between from to slots) (λ i. passed_at before rows key side (slot_row g n i)) (g.children - 1) long
       (λ i less.
       let inside : from + i < length slots = omega (arith, k.to_in) in
       let there : from + i < slots_in g = omega (arith, past, fits) in
-      ap (passed b.before key side) (get_or-between slots from to i key (omega arith))
-      ∙ passed_alike b.before lawful key side (get_or slots (from + i) key) (get_or (slot_keys g rows) (from + i) key) (agree_at b.before slots (slot_keys g rows) (from + i) key x.agrees inside)
-      ∙ ap (passed b.before key side) (slot_key x.column.tree rows x.column.all (from + i) key there ∙ ap (λ r. get_or rows r key) (slot_place g n i (omega (arith, fits)))))
+      ap (passed before key side) (get_or-between slots from to i key (omega arith))
+      ∙ passed_alike before lawful key side (get_or slots (from + i) key) (get_or (slot_keys g rows) (from + i) key) (agree_at before slots (slot_keys g rows) (from + i) key o.agrees inside)
+      ∙ ap (passed before key side) (slot_key x.column.tree rows x.column.all (from + i) key there ∙ ap (λ r. get_or rows r key) (slot_place g n i (omega (arith, fits)))))

@@ -1,22 +1,22 @@
-// A column in order, with the tree over it.
+// A column with the tree over so many rows.
 ghost use Rattle.directories.specs.Opening.{in_order};
-ghost use Rattle.std.specs.Prelude.{◌≡◌, true, length};
+ghost use Rattle.std.specs.Prelude.{◌≡◌, length};
 
 use crate::tree::Tree;
 use indexes::{Counted, Decline, Layout, Side, seek};
 use keys::Key;
 use std::alloc::AllocError;
 
-#[derive(Copy)]
-pub(crate) struct Column<'a, K: Key> {
+pub(crate) struct Column<'a, K> {
     pub(crate) tree: Tree,
     pub(crate) rows: &'a [K],
     ghost all: { length rows.now ≡ tree.shape.rows },
-    ghost ordered: { in_order K.Key.before rows.now ≡ true },
 }
 
-// By hand: the check refuses the derive here (`derive-over-ghost-field`).
-impl<'a, K: Key> Clone for Column<'a, K> {
+// Both by hand: the check derives no `Clone` over a ghost field, and a derived `Copy` would ask `Copy` of keys.
+impl<'a, K> Copy for Column<'a, K> {}
+
+impl<'a, K> Clone for Column<'a, K> {
     ghost use Rattle.std.specs.Prelude.{⊤};
 
     ghost is_clone = { λ x y. y ≡ x };

@@ -4,7 +4,7 @@ use indexes::{Counted, Side, seek};
 use keys::Key;
 
 impl<'a, K: Key> FrozenIndex<'a, K> {
-    ghost use Rattle.directories.specs.Frozen.{column_of, layout_of};
+    ghost use Rattle.directories.specs.Frozen.{Open, column_of, layout_of};
     ghost use Rattle.directories.specs.Meanings.{sought_under};
     ghost use Rattle.indexes.specs.Meaning.{place_of};
     ghost use Rattle.std.specs.List.{between};
@@ -12,7 +12,8 @@ impl<'a, K: Key> FrozenIndex<'a, K> {
 
     // The keys of an internal node that are looked at.
     fn keys_of(&self, node: usize) -> &'a [K]
-        requires { node < self.now.column.tree.shape.internal }
+        requires opened { Open K.Key.before self.now }
+        requires internal { node < self.now.column.tree.shape.internal }
         ensures { result.now ≡ between (node * self.now.column.tree.shape.slots) (node * self.now.column.tree.shape.slots + (self.now.column.tree.shape.children - 1)) self.now.slots.now }
     {
         let shape = &self.column.tree.shape;
@@ -22,6 +23,7 @@ impl<'a, K: Key> FrozenIndex<'a, K> {
 
     // The place of a key in the column, sought through the slots.
     pub(crate) fn descend(&self, key: &K, side: Side) -> Counted<usize>
+        requires { Open K.Key.before self.now }
         ensures place { result.answer ≡ place_of K.Key.before (column_of self.now) key.now side }
         ensures comparisons { result.comparisons ≡ (sought_under K.Key.before (layout_of self.now) (column_of self.now) key.now side).rounds }
     {

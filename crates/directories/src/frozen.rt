@@ -1,9 +1,6 @@
 // A frozen column: rows in order that no longer change, with what is built over them.
-ghost use Rattle.directories.specs.Meanings.{frozen};
-ghost use Rattle.directories.specs.Slots.{agree, slot_keys};
-ghost use Rattle.indexes.specs.Meaning.{Meant};
-ghost use Rattle.std.proofs.Props.{props};
-ghost use Rattle.std.specs.Prelude.{◌≡◌, true};
+ghost use Rattle.directories.specs.Frozen.{Open, column_of, layout_of};
+ghost use Rattle.std.specs.Prelude.{◌≡◌};
 
 use crate::column::Column;
 use indexes::{Counted, Decline, Index, Layout, Side};
@@ -11,16 +8,15 @@ use keys::Key;
 use std::alloc::AllocError;
 
 // The tree is computed once, at the opening.
-#[derive(Copy)]
-pub struct FrozenIndex<'a, K: Key> {
+pub struct FrozenIndex<'a, K> {
     pub(crate) column: Column<'a, K>,
     pub(crate) slots: &'a [K],
-    ghost agrees: { agree K.Key.before slots.now (slot_keys column.tree.shape column.rows.now) ≡ true },
-    pub ghost meant: { Meant K.Key.before (frozen K.Key.before column.tree.layout column.rows.now) } by { Prim.hlevel props },
 }
 
-// By hand: the check refuses the derive here (`derive-over-ghost-field`).
-impl<'a, K: Key> Clone for FrozenIndex<'a, K> {
+// Both by hand: derived, they would ask the same of keys.
+impl<'a, K> Copy for FrozenIndex<'a, K> {}
+
+impl<'a, K> Clone for FrozenIndex<'a, K> {
     ghost use Rattle.std.specs.Prelude.{⊤};
 
     ghost is_clone = { λ x y. y ≡ x };
@@ -33,7 +29,7 @@ impl<'a, K: Key> Clone for FrozenIndex<'a, K> {
 }
 
 impl<'a, K: Key> FrozenIndex<'a, K> {
-    ghost use Rattle.directories.specs.Frozen.{Opens, column_of, layout_of};
+    ghost use Rattle.directories.specs.Frozen.{Opens};
     ghost use Rattle.indexes.specs.declared.layout.Layout.TheVariants.{Bare};
     ghost use Rattle.std.specs.Prelude.{[]};
 
@@ -41,6 +37,7 @@ impl<'a, K: Key> FrozenIndex<'a, K> {
     pub fn empty() -> Self
         ensures holds { column_of result ≡ [] }
         ensures layout { layout_of result ≡ Bare }
+        ensures opened { Open K.Key.before result }
     {
         FrozenIndex {
             column: Column::empty(),
@@ -70,17 +67,13 @@ impl<'a, K: Key> FrozenIndex<'a, K> {
 }
 
 impl<'a, K: Key> Index<K> for FrozenIndex<'a, K> {
-    ghost use Rattle.directories.specs.Frozen.{column_of, layout_of};
-    ghost use Rattle.std.specs.Prelude.{⊤};
+    ghost use Rattle.directories.specs.Meanings.{frozen};
 
     ghost means = { λ x. frozen K.Key.before (layout_of x) (column_of x) };
 
-    // every frozen index is open: its type says so
-    ghost opened = { λ _. ⊤ };
+    ghost opened = { Open K.Key.before };
 
-    ghost opened_is_fact = { λ _. Prim.hlevel props };
-
-    ghost meant = { λ x _. x.meant };
+    ghost meant = { λ _ o. o.meant };
 
     fn len(&self) -> usize {
         self.column.rows.len()

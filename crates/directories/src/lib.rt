@@ -5,9 +5,10 @@
 // is then an index over the column: a place is found by a descent through the slots to one chunk of the column. Under
 // `Layout::Bare` there are no slots, and the one chunk is the column.
 //
-// What must hold stands in the types: a `Tree` is an allowed layout with the shape that it has over few rows, a `Column` is
-// rows in order with a tree over so many, and a `FrozenIndex` is a column with slots that agree with it. So every frozen
-// index answers, from `empty` on, and no call has to be shown that it was opened.
+// What needs no order of keys stands in the types: a `Tree` is an allowed layout with the shape that it has over few rows,
+// and a `Column` is rows with a tree over so many. That the rows are in order, and that the slots agree with them, stands in
+// clauses, as `Open`: it holds from `empty` on, and every lookup asks for it. A field of `FrozenIndex` that said so would
+// keep it out of other generic structs, which could hold no `FrozenIndex<Reversed<K>>`.
 //
 // It promises, for every lawful kind of key: each decline, in the order of the numbers, with everything left as it was;
 // exactly the slots of the rules; that an index opens exactly where its slots are equivalent to those; and exactly the

@@ -11,8 +11,8 @@ use Rattle.directories.proofs.column.Column.land.Goals.{After-seek-found}
 pub chunk-requires : goal.chunk-requires
 chunk-requires g c = leaf_exists c.args.self.now.tree c.args.node (Some c.in-Some.chunk) c.requires c.in-Some.ensures
 
-found : (g : given.Over) (c : After-seek-found g) → Leaf c.args.self.now c.args.key.now c.args.side c.in-Some.chunk c.seek-found.result
-found g c = leaf c.args.self.now c.args.key.now c.args.side c.chunk.result.now c.seek-found.result c.in-Some.chunk (leaf_exists c.args.self.now.tree c.args.node (Some c.in-Some.chunk) c.requires c.in-Some.ensures) c.chunk.ensures c.seek-found.ensures
+found : (g : given.Over) (c : After-seek-found g) → Leaf g.K.Key.before c.args.self.now c.args.key.now c.args.side c.in-Some.chunk c.seek-found.result
+found g c = leaf g.K.Key.before c.args.self.now c.args.key.now c.args.side c.chunk.result.now c.seek-found.result c.in-Some.chunk (leaf_exists c.args.self.now.tree c.args.node (Some c.in-Some.chunk) c.requires c.in-Some.ensures) c.chunk.ensures c.seek-found.ensures
 
 pub overflow_mul-result : goal.overflow_mul-result
 overflow_mul-result g c = let f = found g (goal.at.overflow_mul-result g c).After-seek-found in omega (arith, f.starts)

@@ -14,7 +14,7 @@ turn : (g : given.Over) (c : After-seek-found g)
     → Turned c.args.self.now.column.tree.shape (passed_at g.K.Key.before (column_of c.args.self.now) c.args.key.now c.args.side)
     (c.loop-node.comparisons + c.seek-found.result.comparisons) c.loop-node.node c.seek-found.result.answer
 turn g c =
-    turned g.met.K.Key.lawful c.args.self.now c.args.key.now c.args.side
+    turned g.met.K.Key.lawful c.args.self.now c.requires c.args.key.now c.args.side
     c.loop-node.comparisons c.loop-node.node c.seek-found.result c.loop-node-test.true c.loop-node.invariant.1 c.loop-node.invariant.2
     (subst (λ part. Seeks g.K.Key.before part c.args.key.now c.args.side c.seek-found.result) c.keys_of.ensures c.seek-found.ensures)
 
@@ -40,14 +40,14 @@ pub overflow_add-result : goal.overflow_add-result
 overflow_add-result g c =
     let x = c.args.self.now in
     let f = facts x.column.tree in
-    let few = landed_few g.met.K.Key.lawful x c.args.key.now c.args.side c.loop-node.node in
+    let few = landed_few g.met.K.Key.lawful x c.requires c.args.key.now c.args.side c.loop-node.node in
     omega (arith, few, c.land-landed.ensures.comparisons, c.loop-node.invariant.0, c.loop-node.invariant.1, f.internal_few, f.rows_few)
 
 pub returns : goal.returns
 returns g c =
     let x = c.args.self.now in
-    let e = landed g.met.K.Key.lawful x c.args.key.now c.args.side c.loop-node.comparisons c.loop-node.node c.loop-node-test.false c.loop-node.invariant.2 in
-    let p = placed x.column g.met.K.Key.lawful c.args.key.now c.args.side in
+    let e = landed g.met.K.Key.lawful x c.requires c.args.key.now c.args.side c.loop-node.comparisons c.loop-node.node c.loop-node-test.false c.loop-node.invariant.2 in
+    let p = placed g.K.Key.before x g.met.K.Key.lawful c.requires c.args.key.now c.args.side in
     record {
       place = c.land-landed.ensures.place ∙ ap (λ (s : Sought). s.place) e ∙ p.place;
       comparisons = ap (λ y. c.loop-node.comparisons + y) c.land-landed.ensures.comparisons ∙ ap (λ (s : Sought). s.rounds) e ∙ p.rounds;
