@@ -1,11 +1,12 @@
 -- The fields that are left, one by one: as many turns as there are bytes are enough, so none need be counted. Assumes nothing.
-use Rattle.std.proofs.Common.{◌≡◌, ℕ, zero, suc, ◌<◌, ◌≤◌, List, [], ◌∷◌, length, is_some, Some, None, Option, sym, refl, ap, ◌∙◌, arith}
+use Rattle.std.proofs.Common.{◌≡◌, ℕ, zero, suc, ◌<◌, ◌≤◌, List, [], ◌∷◌, length, is_some, Some, None, Option, unwrap_or, sym, refl, ap, ◌∙◌, arith}
+use Rattle.std.specs.Option.{option_map}
 use Rattle.sheets.specs.declared.reader.Stage.{Stage}
 use Rattle.sheets.specs.declared.reader.Stage.TheVariants as stage
 use Rattle.sheets.specs.Fields.{Piece}
-use Rattle.sheets.specs.Grammar.{step_at, step, bind, Step, State, pieces, left, ended}
+use Rattle.sheets.specs.Grammar.{step_at, step, bind, Step, State, pieces, left, turns, handed, ended}
 use Rattle.std.proofs.lemmas.Option.{same_Some, none-some}
-use Rattle.sheets.proofs.Options.{bind_same}
+use Rattle.sheets.proofs.Options.{bind_parts, bind_same}
 use Rattle.sheets.proofs.Steps.{taken, shorter}
 
 -- a field, and then those that are left after it
@@ -58,10 +59,19 @@ ended_nil stage.Chosen fs e = absurd (none-some fs e)
 ended_nil stage.Accounts fs e = sym (same_Some _ _ e)
 ended_nil stage.Labels fs e = sym (same_Some _ _ e)
 
-no_more : (s : Stage) (z : ℕ) (bs : List ℕ) (fs : List Piece) → None ≡ step_at s z bs → pieces (length bs) s z bs ≡ Some fs → fs ≡ []
-no_more s z [] fs e h = ended_nil s fs h
-no_more s z (b ∷ bs) fs e h = absurd (none-some fs (ap after_step e ∙ sym (more_at s z (b ∷ bs) (omega arith)) ∙ h))
+-- fields to the end come in as many turns
+turns_left : (n : ℕ) (s : Stage) (z : ℕ) (bs : List ℕ) (fs : List Piece) → pieces n s z bs ≡ Some fs → turns n (record { stage = s; whole = z; rest = bs }) ≡ fs
+turns_left zero s z [] fs e = sym (ended_nil s fs e)
+turns_left (suc n) s z [] fs e = sym (ended_nil s fs e)
+turns_left zero s z (b ∷ bs) fs e = absurd (none-some fs e)
+turns_left (suc n) s z (b ∷ bs) fs e =
+    let t = bind_parts (step_at s z (b ∷ bs)) _ fs e in
+    let q = t.0.then in
+    let gs = bind_parts (pieces n q.stage q.whole q.rest) _ fs t.2 in
+    ap (λ o. unwrap_or (option_map (λ u. u.read ∷ turns n u.then) o) []) t.1
+    ∙ ap (λ hs. t.0.read ∷ hs) (turns_left n q.stage q.whole q.rest gs.0 gs.1)
+    ∙ same_Some _ fs gs.2
 
--- no field is taken where fields go to the end: none is left
-pub left_end : (q : State) (fs : List Piece) → None ≡ step q → left q ≡ Some fs → fs ≡ []
-left_end q fs e h = no_more q.stage q.whole q.rest fs e h
+-- a reader with fields to the end hands on these
+pub handed_left : (q : State) (fs : List Piece) → left q ≡ Some fs → handed q ≡ fs
+handed_left q fs e = turns_left (length q.rest) q.stage q.whole q.rest fs e

@@ -1,16 +1,16 @@
--- A reader that is asked for a field takes a step of the grammar, so it hands on the fields that are left. Assumes nothing.
-use Rattle.std.proofs.Common.{◌≡◌, List, [], ◌∷◌, length, is_some, true, Some, None, Option, unwrap_or, sym, refl, ap, ◌∙◌, subst, arith}
+-- A reader that is asked for a field takes a step of the grammar, so it hands on the fields that the grammar says. Assumes nothing.
+use Rattle.std.proofs.Common.{◌≡◌, ℕ, zero, suc, ◌<◌, ◌≤◌, [], ◌∷◌, length, is_some, true, Some, None, Option, unwrap_or, sym, refl, ap, ◌∙◌, subst, arith}
 use Rattle.std.proofs.lemmas.Bool.Decides.{nat_tests}
 use Rattle.std.proofs.lemmas.Iterator.{YieldsList}
-use Rattle.std.proofs.lemmas.Iterator.Splits.{YieldsList-from_shown_while}
 use Rattle.std.proofs.lemmas.Option.{same_Some, none-some}
+use Rattle.std.specs.Iterator.{AlwaysYields}
 use Rattle.std.specs.Option.{option_map}
 use Rattle.sheets.specs.declared.field.Field.{Field}
 use Rattle.sheets.specs.declared.reader.Reader.{Reader}
 use Rattle.sheets.specs.Fields.{Piece, told}
-use Rattle.sheets.specs.Grammar.{bind, Step, step, State, state, Reads, left}
-use Rattle.sheets.proofs.Left.{left_step, some_step, left_end}
-use Rattle.sheets.proofs.Options.{bind_parts}
+use Rattle.sheets.specs.Grammar.{Step, step, State, state, Reads, left, turns, handed}
+use Rattle.sheets.proofs.Left.{some_step}
+use Rattle.sheets.proofs.Steps.{taken, shorter}
 
 went_by : (o : Option Step) (q : State) (f : Piece) (q' : State) → Some f ≡ option_map (λ t. t.read) o → q' ≡ unwrap_or (option_map (λ t. t.then) o) q → Some (record { read = f; then = q' }) ≡ o
 went_by None q f q' e h = absurd (none-some f (sym e))
@@ -28,28 +28,28 @@ stayed_by (Some t) e = absurd (none-some t.read e)
 pub stayed : {r r' : Reader} → Reads r None r' → None ≡ step (state r)
 stayed {r} h = stayed_by (step (state r)) h.field
 
+less : {r r' : Reader} {f : Field} → Reads r (Some f) r' → length r'.rest.now < length r.rest.now
+less {r} {r'} h = shorter (taken r.stage r.whole r.rest.now _ (sym (went h)))
+
 -- a reader that went on is well formed or not, as it was
 pub reads_on : {r r' : Reader} (o : Option Field) → Reads r o r' → is_some o ≡ true → is_some (left (state r')) ≡ is_some (left (state r))
 reads_on None h e = absurd (grind (arith, nat_tests))
 reads_on {r} {r'} (Some f) h e = some_step (state r) (record { read = told f; then = state r' }) (went h)
 
--- a reader with fields to the end hands them on
-abbrev unread : Reader → List Piece
-unread r = unwrap_or (left (state r)) []
-
-abbrev HasAll : Reader → Type 0
-HasAll r = (fs : List Piece) × (left (state r) ≡ Some fs)
-
-none_unread : (r r' : Reader) → HasAll r → Reads r None r' → length (unread r) ≡ 0
-none_unread r r' p h = ap (λ o. length (unwrap_or o [])) p.1 ∙ ap length (left_end (state r) p.0 (stayed h) p.1)
-
-one_unread : (r : Reader) (f : Field) (r' : Reader) → HasAll r → Reads r (Some f) r' → HasAll r' × (unread r ≡ told f ∷ unread r')
-one_unread r f r' p h =
-    let e = left_step (state r) _ (went h) in
-    let q = bind_parts (left (state r')) _ p.0 (sym e ∙ p.1) in (
-      (q.0, q.1),
-      ap (λ o. unwrap_or o []) (e ∙ ap (λ o. bind o (λ fs. Some (told f ∷ fs))) q.1) ∙ ap (λ o. told f ∷ unwrap_or o []) (sym q.1),
+-- as many turns as there are bytes left are enough
+turns_by : (n : ℕ) (r : Reader) → length r.rest.now ≤ n → AlwaysYields Reads told r (turns n (state r))
+turns_by zero r h = λ f r' k. let fewer = less k in absurd (omega arith)
+turns_by (suc n) r h = by (step (state r)) refl (turns_by n)
+  where
+    by : (o : Option Step) → o ≡ step (state r) → ((r' : Reader) → length r'.rest.now ≤ n → AlwaysYields Reads told r' (turns n (state r'))) → AlwaysYields Reads told r (unwrap_or (option_map (λ t. t.read ∷ turns n t.then) o) [])
+    by None e more = λ f r' k. none-some _ (e ∙ sym (went k))
+    by (Some t) e more = (
+      (λ r' k. none-some t (stayed k ∙ sym e)),
+      λ f r' k.
+          let same = same_Some _ t (went k ∙ sym e) in
+          let fewer = less k in
+          (ap (λ (u : Step). u.read) same, subst (λ (u : Step). AlwaysYields Reads told r' (turns n u.then)) same (more r' (omega arith))),
     )
 
-pub yields_left : (r : Reader) (fs : List Piece) → left (state r) ≡ Some fs → YieldsList Reads told r fs
-yields_left r fs e = subst (YieldsList Reads told r) (ap (λ o. unwrap_or o []) e) (YieldsList-from_shown_while Reads told unread HasAll none_unread one_unread r (fs, e))
+pub yields_handed : (r : Reader) → YieldsList Reads told r (handed (state r))
+yields_handed r = record { runs = turns_by (length r.rest.now) r (omega arith) }

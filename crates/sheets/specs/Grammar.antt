@@ -101,6 +101,15 @@ pieces (suc n) s z (b ∷ bs) =
 abbrev pub left : State → Option (List Piece)
 left q = pieces (length q.rest) q.stage q.whole q.rest
 
+-- the fields of n turns, up to the first that is not allowed
+abbrev pub turns : ℕ → State → List Piece
+turns zero q = []
+turns (suc n) q = unwrap_or (option_map (λ t. t.read ∷ turns n t.then) (step q)) []
+
+-- the fields that a reader hands on, whether a sheet may end after them or not
+abbrev pub handed : State → List Piece
+handed q = turns (length q.rest) q
+
 -- the fields of a sheet, which is not too long
 abbrev pub fields : List ℕ → Option (List Piece)
 fields bs = cond (nat_le (length bs) 65536) (left (opened bs)) None

@@ -1,9 +1,9 @@
 // What a sheet may ask, with its row number or its key.
-ghost use Rattle.std.specs.Prelude.{◌≡◌, Some};
+ghost use Rattle.std.specs.Prelude.{◌≡◌, Some, IfOk};
 ghost use Rattle.sheets.specs.Fields.{told};
-ghost use Rattle.sheets.specs.Grammar.{Said};
+ghost use Rattle.sheets.specs.Grammar.{Said, state, handed};
 ghost use Rattle.sheets.specs.Viewed.{viewed};
-ghost use Rattle.sheets.specs.Said.{request_of, place_of};
+ghost use Rattle.sheets.specs.Said.{request_of, requests_of, place_of};
 ghost use Rattle.sheets.specs.Written.{Asks};
 
 use crate::field::Field;
@@ -48,9 +48,11 @@ impl<K: SheetKey> Request<K> {
 }
 
 impl<'a> Sheet<'a> {
-    // What the sheet asks, in its order; each of its calls, where they are over keys of this kind, asks one thing.
+    // What the sheet asks, in its order; each of its calls, where they are over keys of this kind, asks one thing. A sheet
+    // that a caller put together asks what its reader hands on, since its fields may not go on to the end.
     pub fn requests<K: SheetKey>(&self, heap: Global) -> Result<Vec<Request<K>>, AllocError>
-        ensures { (s : Said) → viewed self.now ≡ Some s → Asks K.SheetKey.width K.SheetKey.spelled s.calls result }
+        ensures asks { (s : Said) → viewed self.now ≡ Some s → Asks K.SheetKey.width K.SheetKey.spelled s.calls result }
+        ensures each { IfOk result (λ v. v.items ≡ requests_of K.SheetKey.width K.SheetKey.spelled (handed (state self.now.calls))) }
     {
         self.calls
             .filter_map(|field| Request::of(field))

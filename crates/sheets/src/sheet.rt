@@ -1,6 +1,11 @@
 // A sheet that was read.
-ghost use Rattle.std.specs.Prelude.{◌≡◌, true, is_some};
-ghost use Rattle.sheets.specs.Grammar.{left, state};
+ghost use Rattle.std.specs.Prelude.{◌≡◌, Some};
+ghost use Rattle.std.specs.Option.{option_map};
+ghost use Rattle.sheets.specs.Fields.{told};
+ghost use Rattle.sheets.specs.Grammar.{column_of, sheet};
+ghost use Rattle.sheets.specs.Said.{layout_of};
+ghost use Rattle.sheets.specs.Viewed.{col, viewed};
+ghost use Rattle.sheets.specs.Written.{WrittenAs};
 
 use crate::field::{Field, Part};
 use crate::reader::Reader;
@@ -16,22 +21,15 @@ pub enum Column<'a> {
     Labels(Part<'a>),
 }
 
-// The directory's value is its letter and its node size; the reader stands at the first call, and its type says that
-// what is left there is fields to the end.
+// The directory's value is its letter and its node size; the reader stands at the first call.
 #[derive(Clone, Copy, PartialEq, Eq, Debug)]
 pub struct Sheet<'a> {
     pub directory: Part<'a>,
     pub column: Column<'a>,
     pub calls: Reader<'a>,
-    pub ghost formed: { is_some (left (state calls)) ≡ true },
 }
 
 impl<'a> Column<'a> {
-    ghost use Rattle.std.specs.Option.{option_map};
-    ghost use Rattle.sheets.specs.Fields.{told};
-    ghost use Rattle.sheets.specs.Grammar.{column_of};
-    ghost use Rattle.sheets.specs.Viewed.{col};
-
     // The column that a field is, if it is one. An Option says as much as a TryFrom: there is one way to fail.
     fn of(field: Field<'a>) -> Option<Column<'a>>
         ensures { option_map col result ≡ column_of (told field.entry) }
@@ -45,13 +43,6 @@ impl<'a> Column<'a> {
 }
 
 impl<'a> Sheet<'a> {
-    ghost use Rattle.std.specs.Option.{option_map};
-    ghost use Rattle.std.specs.Prelude.{Some};
-    ghost use Rattle.sheets.specs.Grammar.{sheet};
-    ghost use Rattle.sheets.specs.Said.{layout_of};
-    ghost use Rattle.sheets.specs.Viewed.{viewed};
-    ghost use Rattle.sheets.specs.Written.{WrittenAs};
-
     // What is to be built over the column.
     pub fn layout(&self) -> Layout
         ensures { result ≡ layout_of self.now.directory.bytes.now }

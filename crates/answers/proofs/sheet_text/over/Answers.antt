@@ -19,5 +19,5 @@ returns g c s says =
     (opens.bare_answers refl refl)
     (ap (λ x. frozen before (layout_of x) (column_of x)) c.new.ensures.below ∙ (λ j. frozen before (opens.under j) (opens.holds j)))
     (ap has c.new.ensures.none ∙ fun_ext (λ r. refl))
-    (c.as_slice-2.ensures.value ∙ (c.in_ok-requests.ensures s says).asks))
+    (c.as_slice-2.ensures.value ∙ (c.in_ok-requests.ensures.asks s says).asks))
     c.run.ensures

@@ -50,7 +50,7 @@ pub returns : goal.returns
 returns c =
     let at = goal.at.returns c in
     let a = all c.args.bytes.now (omega arith) _ c.new-reader.ensures _ (first at.In_ok-directory) _ (second at.In_ok-next)
-    (record { directory = c.in-Directory.directory; column = c.in_ok-column.column; calls = c.next-2.new.self; formed = sym c.if-not-is_well_formed.ensures })
+    (record { directory = c.in-Directory.directory; column = c.in_ok-column.column; calls = c.next-2.new.self })
     (bytes_fit c.args.bytes.now c.type_inv.bytes) (ap told (sym c.in-Directory.is)) c.in_ok-column.ensures refl
     c.if-not-is_well_formed.ensures in
     record { said = a.said; written = a.written }
