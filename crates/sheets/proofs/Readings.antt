@@ -1,5 +1,5 @@
 -- What the first two fields, and the test of the rest, say of the sheet: what `Sheet::read` owes at each exit. Assumes nothing.
-use Rattle.std.proofs.Common.{◌≡◌, ℕ, suc, ◌≤◌, true, false, cond, List, [], ◌∷◌, length, get_or, is_some, Some, None, Option, sym, refl, ap, ◌∙◌, subst, arith, w8, Fits}
+use Rattle.std.proofs.Common.{◌≡◌, ℕ, suc, ◌≤◌, Bool, true, false, cond, List, [], ◌∷◌, length, get_or, is_some, Some, None, Option, sym, refl, ap, ◌∙◌, subst, arith, w8, Fits}
 use Rattle.std.specs.Option.{option_map}
 use Rattle.std.proofs.lemmas.Bool.{le-leb}
 use Rattle.sheets.specs.declared.field.Field.{Field}
@@ -110,14 +110,22 @@ module _ (bs : List ℕ) (small : length bs ≤ 65536) (q : State) (start : q �
           ∙ ap (λ o. bind o (λ fs. Some (t.read ∷ fs))) (left_step t.then u second)
           ∙ before t.read u.read (left u.then)
 
-      pub no_rest : false ≡ is_some (left u.then) → fields bs ≡ None
+      no_rest : false ≡ is_some (left u.then) → fields bs ≡ None
       no_rest e = fields_last ∙ ap (λ o. bind o (λ fs. Some (t.read ∷ u.read ∷ fs))) (none_tested (left u.then) e)
 
       -- the whole is read
-      pub all : (r : Sheet) → Bytes bs → piece Directory r.directory ≡ t.read → Some (col r.column) ≡ column_of u.read → state r.calls ≡ u.then → true ≡ is_some (left u.then) → Owed bs (Some r)
+      all : (r : Sheet) → Bytes bs → piece Directory r.directory ≡ t.read → Some (col r.column) ≡ column_of u.read → state r.calls ≡ u.then → true ≡ is_some (left u.then) → Owed bs (Some r)
       all r w d c calls e =
           let rest = some_tested (left u.then) e in
           let same : col r.column ≡ u.read = same_Some _ _ (c ∙ columns) in
           some bs r (record { directory = t.read; column = u.read; calls = rest.0 }) w
           ((λ i. bind (left (calls i)) (λ fs. Some (record { directory = d i; column = same i; calls = fs }))) ∙ ap (λ o. bind o (λ fs. Some (record { directory = t.read; column = u.read; calls = fs }))) rest.1)
           (fields_last ∙ ap (λ o. bind o (λ fs. Some (t.read ∷ u.read ∷ fs))) rest.1)
+
+      -- it is a sheet if what is left then is fields to the end
+      pub whole : (r : Sheet) → Bytes bs → piece Directory r.directory ≡ t.read → Some (col r.column) ≡ column_of u.read → state r.calls ≡ u.then → (o : Option Sheet) → o ≡ when (is_some (left u.then)) r → Owed bs o
+      whole r w d c calls o e = subst (Owed bs) (sym e) (by (is_some (left u.then)) refl)
+        where
+          by : (b : Bool) → b ≡ is_some (left u.then) → Owed bs (when b r)
+          by false n = none bs None refl (no_rest n)
+          by true y = all r w d c calls y

@@ -1,8 +1,8 @@
 // A sheet that was read.
-ghost use Rattle.std.specs.Prelude.{◌≡◌, Some};
+ghost use Rattle.std.specs.Prelude.{◌≡◌, Some, is_some};
 ghost use Rattle.std.specs.Option.{option_map};
 ghost use Rattle.sheets.specs.Fields.{told};
-ghost use Rattle.sheets.specs.Grammar.{column_of, sheet};
+ghost use Rattle.sheets.specs.Grammar.{when, column_of, state, left, sheet};
 ghost use Rattle.sheets.specs.Said.{layout_of};
 ghost use Rattle.sheets.specs.Viewed.{col, viewed};
 ghost use Rattle.sheets.specs.Written.{WrittenAs};
@@ -67,6 +67,13 @@ impl<'a> Sheet<'a> {
             return None;
         };
         let column = Column::of(reader.next()?)?;
+        Sheet::checked(directory, column, reader)
+    }
+
+    // A sheet of these, if what is left is fields to the end: apart from `read`, so that the test has a clause of its own.
+    fn checked(directory: Part<'a>, column: Column<'a>, reader: Reader<'a>) -> Option<Sheet<'a>>
+        ensures { result ≡ when (is_some (left (state reader.entry))) (record { directory = directory.entry; column = column.entry; calls = reader.entry }) }
+    {
         if !reader.is_well_formed() {
             return None;
         }

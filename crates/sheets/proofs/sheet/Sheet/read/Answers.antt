@@ -2,7 +2,7 @@
 use Rattle.std.proofs.Common.{◌≡◌, Some, sym, refl, ap, arith}
 use Rattle.sheets.specs.Fields.{told}
 use Rattle.sheets.specs.Grammar.{state, step}
-use Rattle.sheets.proofs.Readings.{none, no_first, no_directory, no_second, no_column, no_rest, all, bytes_fit}
+use Rattle.sheets.proofs.Readings.{none, no_first, no_directory, no_second, no_column, whole, bytes_fit}
 use Rattle.sheets.proofs.Turns.{went, stayed}
 use Rattle.sheets.proofs.sheet.Sheet.read.Goals as goal
 use Rattle.sheets.proofs.sheet.Sheet.read.Goals.{In_ok-directory, In_ok-next}
@@ -39,18 +39,11 @@ returns-in_err-column c =
     (no_column _ (omega arith) _ c.new-reader.ensures _ (first at.In_ok-directory) _ (second at.In_ok-next) c.in_err-column.ensures) in
     record { said = a.said; written = a.written }
 
-pub returns-then-not-is_well_formed : goal.returns-then-not-is_well_formed
-returns-then-not-is_well_formed c =
-    let at = goal.at.returns-then-not-is_well_formed c in
-    let a = none c.args.bytes.now _ refl
-    (no_rest _ (omega arith) _ c.new-reader.ensures _ (first at.In_ok-directory) _ (second at.In_ok-next) c.if-not-is_well_formed.ensures) in
-    record { said = a.said; written = a.written }
-
 pub returns : goal.returns
 returns c =
     let at = goal.at.returns c in
-    let a = all c.args.bytes.now (omega arith) _ c.new-reader.ensures _ (first at.In_ok-directory) _ (second at.In_ok-next)
+    let a = whole c.args.bytes.now (omega arith) _ c.new-reader.ensures _ (first at.In_ok-directory) _ (second at.In_ok-next)
     (record { directory = c.in-Directory.directory; column = c.in_ok-column.column; calls = c.next-2.new.self })
     (bytes_fit c.args.bytes.now c.type_inv.bytes) (ap told (sym c.in-Directory.is)) c.in_ok-column.ensures refl
-    c.if-not-is_well_formed.ensures in
+    _ c.checked.ensures in
     record { said = a.said; written = a.written }
