@@ -1,7 +1,7 @@
 // The requests of a sheet, carried out on a strike list, and a line for each.
 ghost use Rattle.std.specs.Prelude.{◌≡◌, IfOk, string_bytes};
 ghost use Rattle.layers.specs.Table.{has};
-ghost use Rattle.layers.specs.Views.{out_of, meant_below};
+ghost use Rattle.layers.specs.Views.{out_of, Kept};
 ghost use Rattle.answers.specs.Text.{call_of, lines};
 
 use crate::letter::Letter;
@@ -29,7 +29,8 @@ pub(crate) fn run<K: Key, I: Index<K>>(
     list: &mut StrikeList<K, I>,
     requests: &[Request<K>],
 ) -> Result<String, AllocError>
-    ensures { IfOk result (λ t. string_bytes t ≡ lines K.Key.before (meant_below list.old) (has (out_of list.old)) requests.now) }
+    requires { Kept I.Index.opened I.Index.means list.old }
+    ensures { IfOk result (λ t. string_bytes t ≡ lines K.Key.before (I.Index.means list.old.below) (has (out_of list.old)) requests.now) }
 {
     let mut text = String::new(heap);
     for request in requests {
