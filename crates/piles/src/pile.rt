@@ -1,4 +1,6 @@
 // Strike lists over a column, over a reference to it, and over one another.
+ghost use Rattle.layers.specs.Views.{Kept};
+
 use crate::ranked::Ranked;
 use crate::seen::{agrees, in_sight, ranks_of};
 use directories::FrozenIndex;
@@ -17,6 +19,7 @@ fn above<K: Key + Ranked, I: Index<K>>(
     sought: &[K],
 ) -> StrikeList<K, I>
     requires { I.Index.opened below }
+    ensures { Kept I.Index.opened I.Index.means result }
 {
     let mut list = StrikeList::new(below);
     for row in struck {
