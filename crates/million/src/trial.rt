@@ -27,7 +27,9 @@ pub struct Trial<'a> {
 
 impl<'a> Directory<'a> {
     // Looks up 50,000 keys on either side.
-    fn looked_up(&self, index: &FrozenIndex<'_, Account>) -> Tally {
+    fn looked_up<I: Index<Account>>(&self, index: &I) -> Tally
+        requires { I.Index.opened index.now }
+    {
         let mut lookups = Tally::new();
         for lookup in 1..=50_000 {
             let key = scattered(lookup);

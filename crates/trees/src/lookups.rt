@@ -27,7 +27,9 @@ impl Found {
     }
 
     // Has the index the rows of the column, and no more?
-    fn rows<K: Made>(&mut self, index: &FrozenIndex<'_, K>, column: &[K]) {
+    fn rows<K: Made, I: Index<K>>(&mut self, index: &I, column: &[K])
+        requires { I.Index.opened index.now }
+    {
         self.rows.note(index.len() == column.len());
         let mut held = stranger();
         for (place, row) in column.iter().enumerate() {
@@ -38,12 +40,9 @@ impl Found {
     }
 
     // Each key on either side: the place as counted over all rows, the comparisons as by the reader's descent.
-    fn places<K: Made>(
-        &mut self,
-        index: &FrozenIndex<'_, K>,
-        case: &Case<'_, K>,
-        source: &mut Source,
-    ) {
+    fn places<K: Made, I: Index<K>>(&mut self, index: &I, case: &Case<'_, K>, source: &mut Source)
+        requires { I.Index.opened index.now }
+    {
         let ceiling = case.reader.ceiling();
         self.comparisons.note(index.ceiling() == ceiling);
         for lookup in &case.column.lookups {

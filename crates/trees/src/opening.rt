@@ -9,7 +9,9 @@ use std::alloc::{AllocError, Global};
 const LAYOUT: Layout = Layout::Full { slots: 2 };
 
 // Has the index this row at this place, and at no other?
-fn has<K: Made>(index: &FrozenIndex<'_, K>, place: usize, row: &K) -> bool {
+fn has<K: Made, I: Index<K>>(index: &I, place: usize, row: &K) -> bool
+    requires { I.Index.opened index.now }
+{
     let mut held = stranger();
     index.row(place, &mut held).is_ok()
         && held == *row
@@ -18,12 +20,15 @@ fn has<K: Made>(index: &FrozenIndex<'_, K>, place: usize, row: &K) -> bool {
 }
 
 // Has the index these rows, no two of them equivalent, and finds each?
-fn has_all<K: Made>(index: &FrozenIndex<'_, K>, rows: &[K]) -> bool {
+fn has_all<K: Made, I: Index<K>>(index: &I, rows: &[K]) -> bool
+    requires { I.Index.opened index.now }
+{
     index.len() == rows.len()
-        && rows
-            .iter()
-            .enumerate()
-            .all(|(place, row)| has(index, place, row))
+        && rows.iter().enumerate().all(
+            |(place, row)|
+                requires { I.Index.opened index.now }
+            { has(index, place, row) },
+        )
 }
 
 // An opening to try: of this column, under this layout, with these slots.

@@ -48,7 +48,9 @@ impl<'a> Worked<'a> {
         }
     }
 
-    fn descend(&self, tally: &mut Tally, index: &FrozenIndex<'_, Account>) {
+    fn descend<I: Index<Account>>(&self, tally: &mut Tally, index: &I)
+        requires { I.Index.opened index.now }
+    {
         tally.note(index.ceiling() == self.ceiling);
         for descent in self.descents {
             let Target { number, side } = descent.target;
