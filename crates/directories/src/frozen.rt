@@ -3,7 +3,7 @@ ghost use Rattle.directories.specs.Frozen.{Open, column_of, layout_of};
 ghost use Rattle.std.specs.Prelude.{◌≡◌};
 
 use crate::column::Column;
-use indexes::{Counted, Decline, Index, Layout, Side};
+use indexes::{Counted, Decline, Index, Layout, Side, seek};
 use keys::Key;
 use std::alloc::AllocError;
 
@@ -90,6 +90,10 @@ impl<'a, K: Key> Index<K> for FrozenIndex<'a, K> {
     }
 
     fn place(&self, key: &K, side: Side) -> Counted<usize> {
-        self.descend(key, side)
+        match self.column.tree.layout {
+            // one node, and no way down to it: a lookup in few rows is no dearer than its search
+            Layout::Bare => seek(self.column.rows, key, side),
+            Layout::Full { .. } | Layout::Level { .. } => self.descend(key, side),
+        }
     }
 }
