@@ -21,7 +21,8 @@ impl<'a, K: Key> FrozenIndex<'a, K> {
         &self.slots[from..from + (shape.children - 1)]
     }
 
-    // The place of a key in the column, sought through the slots.
+    // The place of a key in the column, sought through the slots. (Inlined, as a call of its own it costs a tenth more.)
+    #[inline(always)]
     pub(crate) fn descend(&self, key: &K, side: Side) -> Counted<usize>
         requires { Open K.Key.before self.now }
         ensures place { result.answer ≡ place_of K.Key.before (column_of self.now) key.now side }

@@ -89,6 +89,8 @@ impl<'a, K: Key> Index<K> for FrozenIndex<'a, K> {
         Ok(())
     }
 
+    // One of the two ways is taken for the whole life of an index: inlined, neither pays for the other.
+    #[inline(always)]
     fn place(&self, key: &K, side: Side) -> Counted<usize> {
         match self.column.tree.layout {
             // one node, and no way down to it: a lookup in few rows is no dearer than its search

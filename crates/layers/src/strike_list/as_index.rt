@@ -29,6 +29,8 @@ impl<K: Key, I: Index<K>> Index<K> for StrikeList<K, I> {
         self.below.row(self.struck.unstruck(place), held)
     }
 
+    // Inlined: the place below is often in few rows, and then a call costs as much again.
+    #[inline(always)]
     fn place(&self, key: &K, side: Side) -> Counted<usize> {
         let found = self.below.place(key, side);
         Counted {
