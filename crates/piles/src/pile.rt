@@ -10,6 +10,12 @@ use layers::StrikeList;
 use std::alloc::{AllocError, Global};
 use trials::Tally;
 
+// Two strike lists above a column, over any kind of key: that a caller's own struct can hold them is tried, too.
+#[derive(Drop)]
+struct Pile<'a, K: Key> {
+    top: StrikeList<K, StrikeList<K, FrozenIndex<'a, K>>>,
+}
+
 // A strike list above an index, with rows struck that are there, and the rows that it shows then.
 fn above<K: Key + Ranked, I: Index<K>>(
     tally: &mut Tally,
@@ -50,6 +56,7 @@ pub fn piled<K: Key + Ranked>(
     let lent = above(&mut tally, &frozen, first, some.as_slice(), sought);
     drop(above(&mut tally, &lent, second, few.as_slice(), sought));
     let list = above(&mut tally, frozen, first, some.as_slice(), sought);
-    drop(above(&mut tally, list, second, few.as_slice(), sought));
+    let top = above(&mut tally, list, second, few.as_slice(), sought);
+    drop(Pile { top });
     Ok(tally)
 }
