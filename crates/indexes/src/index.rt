@@ -28,8 +28,8 @@ pub trait Index<K: Key> {
     // its rows, its comparisons for each key and side, and its ceiling
     ghost means: { Self → Meaning K };
 
-    // what it needs to answer; holds from its opening on. A member, and not for each type to keep, since an index of
-    // somebody else's may exist before it is ready
+    // what it needs to answer; holds from its opening on. A member, and not for each type to keep: the check lets no
+    // other generic struct hold a type that keeps a fact of a bound
     ghost opened: { Self → Type 0 };
 
     // The number of rows.

@@ -3,8 +3,7 @@
 // `Index<K>` is the trait that everything above is written against. An index means three things (its ghost member
 // `means`): rows in order, a number of comparisons for each key and side, and a ceiling on these. Its methods `len`,
 // `ceiling`, `row` and `place` answer exactly by that meaning. Its ghost member `opened` is what an implementation
-// needs to answer at all, and a call for which it is not shown is refused; the library's own indexes need nothing, since
-// their types say it.
+// needs to answer at all; constructors and `open` establish it, and a call for which it is not shown is refused.
 //
 // `seek` seeks a key among keys in order by halving: its place, its comparisons, and how many they can be (`bits_of`) are
 // exact. `Layout` names what may be built over a column; the frozen column itself is in crate `directories`.
