@@ -1,17 +1,19 @@
 // Every key from below the first row to above the last, on both sides, over columns of few and of many equal rows.
 use crate::question::{Ask, Kind, PlainKey, Question, after, at};
 use crate::trial::Trial;
-use std::alloc::{AllocError, Global};
-use std::{array, iter};
+use std::array;
 use trials::part;
 
-// Both sides of each number below 70, and the largest.
-fn sought(heap: Global) -> Result<Vec<Ask>, AllocError> {
-    (0..70)
-        .map(PlainKey::Account)
-        .flat_map(|key| [at(key), after(key)])
-        .chain(iter::once(after(PlainKey::Account(u32::MAX))))
-        .collect(heap)
+// Both sides of each number below 70, and the largest. No memory is taken, so that no want of it hides the questions.
+fn sought() -> [Ask; 141] {
+    array::from_fn(|place| {
+        let key = PlainKey::Account(place as u32 / 2);
+        match place {
+            140 => after(PlainKey::Account(u32::MAX)),
+            _ if place % 2 == 0 => at(key),
+            _ => after(key),
+        }
+    })
 }
 
 // A column in which each number from 1 on stands `run` times. By arithmetic, which is no longer than runs that are flattened,
@@ -34,17 +36,11 @@ fn over(trial: &mut Trial, rows: &[PlainKey], asks: &[Ask]) {
     }
 }
 
-fn every_key(trial: &mut Trial) -> Result<(), AllocError> {
-    let asks = sought(trial.heap)?;
+pub fn tried(trial: &mut Trial) {
+    let asks = sought();
     for run in [1, 2, 3, 7, 66] {
-        over(trial, &in_runs(run), asks.as_slice());
+        over(trial, &in_runs(run), &asks);
     }
     let ends = [0, 0, u32::MAX, u32::MAX].map(PlainKey::Account);
-    over(trial, &ends, asks.as_slice());
-    Ok(())
-}
-
-pub fn tried(trial: &mut Trial) {
-    let done = every_key(trial);
-    trial.settle(done);
+    over(trial, &ends, &asks);
 }

@@ -1,7 +1,6 @@
 // Strikes and restores, accepted and declined, and the places over the rows that are left in sight.
 use crate::question::{Ask, Kind, PlainKey, Question, after, at};
 use crate::trial::Trial;
-use std::alloc::{AllocError, Global};
 use std::array;
 
 // Each key written out, as in `FOUR`: a constant calls no `map`.
@@ -89,8 +88,8 @@ fn seventy() -> [PlainKey; 70] {
     array::from_fn(|row| PlainKey::Account(row as u32 + 1))
 }
 
-// 64 strikes, and calls on the list that is full then.
-fn filling(heap: Global) -> Result<Vec<Ask>, AllocError> {
+// 64 strikes, and calls on the list that is full then. No memory is taken, so that no want of it hides the question.
+fn filling() -> [Ask; 74] {
     let then = [
         Ask::Strike(64),
         Ask::Strike(0),
@@ -103,20 +102,24 @@ fn filling(heap: Global) -> Result<Vec<Ask>, AllocError> {
         Ask::Restore(70),
         after(PlainKey::Account(70)),
     ];
-    (0..64).map(Ask::Strike).chain(then).collect(heap)
+    array::from_fn(|call| {
+        if call < 64 {
+            Ask::Strike(call as u32)
+        } else {
+            then[call - 64]
+        }
+    })
 }
 
 // Each of 64 strikes is accepted; what follows is declined or accepted as on a full list.
-fn full(trial: &mut Trial) -> Result<(), AllocError> {
-    let asks = filling(trial.heap)?;
+fn full(trial: &mut Trial) {
     let expected =
         "S 0\nS 0\nS 0\nS 0\nS 0\nS 0\nS 0\nS 0\nS 0\nS 0\nS 0\nS 0\nS 0\nS 0\nS 0\nS 0\n\
                     S 0\nS 0\nS 0\nS 0\nS 0\nS 0\nS 0\nS 0\nS 0\nS 0\nS 0\nS 0\nS 0\nS 0\nS 0\nS 0\n\
                     S 0\nS 0\nS 0\nS 0\nS 0\nS 0\nS 0\nS 0\nS 0\nS 0\nS 0\nS 0\nS 0\nS 0\nS 0\nS 0\n\
                     S 0\nS 0\nS 0\nS 0\nS 0\nS 0\nS 0\nS 0\nS 0\nS 0\nS 0\nS 0\nS 0\nS 0\nS 0\nS 0\n\
                     S 8\nS 7\nS 6\nQ 0 1 6\nR 0\nS 0\nS 8\nR 7\nR 6\nQ 0 6 6\n";
-    by_hand(trial, &seventy(), asks.as_slice(), expected);
-    Ok(())
+    by_hand(trial, &seventy(), &filling(), expected);
 }
 
 // Call `number` of those that strike 70 of the numbers from 0 to 70 in steps of `stride`, and then restore 70 of them,
@@ -145,8 +148,7 @@ fn in_steps(trial: &mut Trial, stride: u32) {
 pub fn tried(trial: &mut Trial) {
     declined(trial);
     not_renumbered(trial);
-    let done = full(trial);
-    trial.settle(done);
+    full(trial);
     for stride in 1..71 {
         in_steps(trial, stride);
     }
