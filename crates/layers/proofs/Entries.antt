@@ -83,7 +83,7 @@ module _ (t : StruckRows) (row : ℕ) where
   abbrev held : List StruckRow
   held = take t.len t.entries
 
-  pub length_held : length held ≡ t.len
+  length_held : length held ≡ t.len
   length_held = let w = t.whole in let f = t.few in length-take-le t.len t.entries (omega arith)
 
   -- the comparisons with a row rise along the entries, as a binary search asks
@@ -111,6 +111,14 @@ module _ (t : StruckRows) (row : ℕ) where
       gap_is (numbers t) row at (omega arith)
       (λ k h. let is = number_at held k in let below = ranked _ row _ (sym (gap.0 k none (omega arith) h)) in omega arith)
       (λ k g h. let is = number_at held k in let above = ranked _ row _ (sym (gap.1 k none g (omega arith))) in omega arith)
+
+  -- and a row below the first entry's number goes before them all
+  pub before_first : (first : StruckRow) → 0 < length held → get_or held 0 none ≡ first → row < first.number → Err 0 ≡ search_answer (numbers t) row
+  before_first first some is below =
+      let size = length_held in
+      let many = length_numbers t in
+      let here = number_at held 0 ∙ ap (λ (s : StruckRow). s.number) is in
+      gap_is (numbers t) row 0 (omega arith) (λ k h. absurd (omega arith)) (above_from (numbers t) (suc row) 0 t.rising (omega arith) (omega arith))
 
 module _ (t : StruckRows) (place : ℕ) where
   -- is the struck row at k above the place counted on by those before it?

@@ -28,12 +28,17 @@ impl StruckRows {
     }
 
     // Where the row stands among those struck, or where it would go.
+    #[tactic(auto, using(crate::proofs::Entries::before_first))]
     fn search(&self, row: u32) -> Result<usize, usize>
         ensures answers { result ≡ search_answer (numbers self.now) row }
         ensures within { IsSearchInRange result self.now.len }
     {
-        self.as_slice()
-            .binary_search_by_key(&row, |struck| struck.number)
+        let struck = self.as_slice();
+        match struck.first() {
+            // before the first struck row a call costs the same however many are struck
+            Some(first) if row < first.number => Err(0),
+            _ => struck.binary_search_by_key(&row, |struck| struck.number),
+        }
     }
 
     // Where a row that is struck stands.
