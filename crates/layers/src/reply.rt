@@ -1,13 +1,14 @@
 // Any call on a strike list, answered as by a plain set of row numbers.
 ghost use Rattle.std.specs.Prelude.{◌≡◌};
+ghost use Rattle.indexes.specs.Meaning.{place_of};
 ghost use Rattle.layers.specs.Table.{has};
-ghost use Rattle.layers.specs.Views.{out_of, Kept};
+ghost use Rattle.layers.specs.Views.{out_of, list_means, Kept};
 ghost use Rattle.layers.specs.Reference.{reply, as_answer, Step};
 ghost use Rattle.layers.specs.declared.calls.Call.{Call};
 
 use crate::calls::{Answer, Call};
 use crate::strike_list::StrikeList;
-use indexes::{Decline, Index};
+use indexes::{Counted, Decline, Index, Side};
 use keys::Key;
 
 // A strike's or a restore's result, as an answer.
@@ -28,6 +29,16 @@ impl<K: Key, I: Index<K>> StrikeList<K, I> {
         Ok(Answer::Key(held))
     }
 
+    // The place of a key. Never inlined, so that the other calls do not carry the search.
+    #[inline(never)]
+    fn sought(&self, key: &K, side: Side) -> Counted<usize>
+        requires { Kept I.Index.opened I.Index.means self.now }
+        ensures place { result.answer ≡ place_of K.Key.before (list_means I.Index.means self.now).rows key.now side }
+        ensures comparisons { result.comparisons ≡ (list_means I.Index.means self.now).comparisons key.now side }
+    {
+        self.place(key, side)
+    }
+
     // Carries out one call, and answers it.
     pub fn answer(&mut self, call: &Call<K>) -> Result<Answer<K>, Decline>
         requires { Kept I.Index.opened I.Index.means self.old }
@@ -39,7 +50,7 @@ impl<K: Key, I: Index<K>> StrikeList<K, I> {
             Call::Restore(row) => done(self.restore(*row)),
             Call::Length => Ok(Answer::Rows(self.len())),
             Call::Row(place, key) => self.read(*place, *key),
-            Call::Place(key, side) => Ok(Answer::Place(self.place(key, *side))),
+            Call::Place(key, side) => Ok(Answer::Place(self.sought(key, *side))),
         }
     }
 }

@@ -56,7 +56,7 @@ pub returns-in-Place-clause-step : goal.returns-in-Place-clause-step
 returns-in-Place-clause-step g c =
     let s = c.args.self.now in
     called c.in-Place.is (record {
-      answer = counted_is c.place.ensures.place c.place.ensures.comparisons;
+      answer = counted_is c.sought.ensures.place c.sought.ensures.comparisons;
       set = quiet g.K.Key.before (g.I.Index.means s.below) (has (out_of s)) (call.Place c.in-Place.key c.in-Place.side) refl;
       below = refl;
     })
