@@ -22,12 +22,11 @@ pub fn in_sight(heap: Global, rows: &[i128], struck: &[u32]) -> Result<Vec<i128>
 // How many rows come before the key; or, after it, how many the key does not come before. By the library's `Side`,
 // which the other trials that ask this do not all share.
 fn place_of(rows: &[i128], sought: i128, side: Side) -> usize {
-    rows.iter()
-        .filter(|row| match side {
-            Side::At => **row < sought,
-            Side::After => **row <= sought,
-        })
-        .count()
+    // the side is told apart once, and not for each row
+    match side {
+        Side::At => rows.iter().filter(|row| **row < sought).count(),
+        Side::After => rows.iter().filter(|row| **row <= sought).count(),
+    }
 }
 
 // Does each place of an index have the row that is in sight there, and is each place past its end declined?
