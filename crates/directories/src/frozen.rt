@@ -89,7 +89,7 @@ impl<'a, K: Key> Index<K> for FrozenIndex<'a, K> {
         Ok(())
     }
 
-    // One of the two ways is taken for the whole life of an index: inlined, neither pays for the other.
+    // From one opening to the next it is always the same way: inlined, neither pays for the other.
     #[inline(always)]
     fn place(&self, key: &K, side: Side) -> Counted<usize> {
         match self.column.tree.layout {

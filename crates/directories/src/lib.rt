@@ -7,8 +7,8 @@
 //
 // What needs no order of keys stands in the types: a `Tree` is an allowed layout with the shape that it has over few rows,
 // and a `Column` is rows with a tree over so many. That the rows are in order, and that the slots agree with them, stands in
-// clauses, as `Open`: it holds from `empty` on, and every lookup asks for it. A field of `FrozenIndex` that said so would
-// keep it out of other generic structs, which could hold no `FrozenIndex<Reversed<K>>`.
+// clauses, as `Open`: it holds from `empty` on, and every lookup asks for it. A fact of the order in `FrozenIndex` would
+// keep it out of other structs over every kind of key: none could hold a `StrikeList<K, FrozenIndex<K>>`.
 //
 // It promises, for every lawful kind of key: each decline, in the order of the numbers, with everything left as it was;
 // exactly the slots of the rules; that an index opens exactly where its slots are equivalent to those; and exactly the

@@ -29,7 +29,7 @@ pub trait Index<K: Key> {
     ghost means: { Self → Meaning K };
 
     // what it needs to answer; holds from its opening on. A member, and not for each type to keep: the check lets no
-    // other generic struct hold a type that keeps a fact of a bound
+    // generic struct hold a type that keeps a fact of a bound, where only a generic impl meets that bound
     ghost opened: { Self → Type 0 };
 
     // The number of rows.

@@ -101,7 +101,7 @@ pieces (suc n) s z (b ∷ bs) =
 abbrev pub left : State → Option (List Piece)
 left q = pieces (length q.rest) q.stage q.whole q.rest
 
--- the fields of n turns, up to the first that is not allowed
+-- the fields that n turns of a reader give, up to the first that is not allowed
 abbrev pub turns : ℕ → State → List Piece
 turns zero q = []
 turns (suc n) q = unwrap_or (option_map (λ t. t.read ∷ turns n t.then) (step q)) []
